@@ -1,0 +1,5 @@
+pub mod Choice
+pub mod Numbers
+pub mod Equality
+pub mod Search
+pub mod Wrote

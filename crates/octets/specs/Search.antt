@@ -1,10 +1,21 @@
--- The first of a list that passes a test.
-use mathlib.Core.Bool.{Bool}
+-- Searches of a list.
+use mathlib.Core.Bool.{Bool, true, false, _&&_}
 use mathlib.Core.List.{List, [], _∷_}
 use mathlib.Core.Option.{Option, none, some}
 use Rattle.octets.specs.Choice.{if_then_else_}
 
 module _ {ℓ} {A : Type ℓ} where
+  -- the first that passes a test
   unfoldable pub first : (A → Bool) → List A → Option A
   first f [] = none
   first f (x ∷ xs) = if f x then some x else first f xs
+
+  -- whether each passes a test
+  abbrev pub every : (A → Bool) → List A → Bool
+  every f [] = true
+  every f (x ∷ xs) = f x && every f xs
+
+  -- what was found, as an answer, or the answer where nothing was
+  abbrev pub entry : {B : Type ℓ} → (A → B) → B → Option A → B
+  entry found missing none = missing
+  entry found missing (some x) = found x

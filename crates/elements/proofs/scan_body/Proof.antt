@@ -1,0 +1,93 @@
+use mathlib.Core.Path.{sym, _∙_}
+use Prim.Native.Nat.{_-_}
+use native.Mathlib.Omega.{arith}
+use borrow.Author.Needs.{needs}
+use borrow.Author.Tests.{le-ltb, lt-ltb}
+use lib.ListN.{length}
+use Rattle.elements.specs.Walk.{walkBody}
+use Rattle.elements.specs.Scan.{placesOf, scanOf}
+use Rattle.elements.proofs.Steps.{stood}
+use Rattle.elements.proofs.Scanning.{Scanned, scanned-none, scanned-more, scanned-all, scanned-failed, in-body}
+use Rattle.elements.proofs.scan_body.Statement.{statement}
+use Rattle.elements.proofs.scan_body.Tie as tie
+
+abbrev Inv-loop : tie.InvT-loop
+Inv-loop body places₀ at₀ places at = Scanned body 6 places at
+
+abbrev μ-loop : tie.MeasureT-loop
+μ-loop body places₀ at₀ places at = length body - at
+
+returns : tie.Need-returns Inv-loop μ-loop
+unfolding scanOf walkBody
+returns c = simp (lt-ltb _ _ (c .if1 .taken))
+
+returns-2 : tie.Need-returns-2 Inv-loop μ-loop
+unfolding scanOf walkBody
+returns-2 c = simp (le-ltb _ _ (c .before .if1 .left), lt-ltb _ _ (c .if2 .taken))
+
+loop-holds : tie.Need-loop-holds Inv-loop μ-loop
+unfolding placesOf
+loop-holds c = scanned-none _ 6
+
+step-at-requires : tie.Need-step-at-requires Inv-loop μ-loop
+step-at-requires c κs = search needs
+
+enum-told : tie.Need-enum-told Inv-loop μ-loop
+enum-told c = search needs
+
+returns-3 : tie.Need-returns-3 Inv-loop μ-loop
+returns-3 c =
+    let p = c .before .before in
+    let q = p .before in
+    sym (in-body _ (q .before .before .if1 .left) (q .before .if2 .left) ∙ scanned-all (q .loop .inv) (sym (p .step-at .ensures) ∙ c .enum-told .given .1))
+
+enum-told-2 : tie.Need-enum-told-2 Inv-loop μ-loop
+enum-told-2 c = search needs
+
+returns-4 : tie.Need-returns-4 Inv-loop μ-loop
+returns-4 c =
+    let p = c .before .before in
+    let q = p .before in
+    sym (in-body _ (q .before .before .if1 .left) (q .before .if2 .left) ∙ scanned-failed (q .loop .inv) (sym (p .step-at .ensures) ∙ c .enum-told2 .given .1))
+
+enum-known-step : tie.Need-enum-known-step Inv-loop μ-loop
+enum-known-step c = search needs
+
+kind-of-requires : tie.Need-kind-of-requires Inv-loop μ-loop
+kind-of-requires c κs = search needs
+
+note-requires : tie.Need-note-requires Inv-loop μ-loop
+note-requires c κs = search needs
+
+loop-less : tie.Need-loop-less Inv-loop μ-loop
+loop-less c =
+    let p = c .before .before .before in
+    let q = p .before .before in
+    omega (arith, stood (q .before .before .before .before .before .args .body .now) (q .before .loop .at) (p .step .given .0 .0) (sym (q .step-at .ensures) ∙ p .step .given .1))
+
+loop-again : tie.Need-loop-again Inv-loop μ-loop
+loop-again c =
+    let p = c .before .before .before in
+    let q = p .before .before in
+    scanned-more (q .before .loop .inv) (p .step .given .0 .0) (sym (q .step-at .ensures) ∙ p .step .given .1)
+    (c .before .kind-of .ensures) (c .note .ensures)
+
+pub scan-body-spec : {M : Type 1} → statement M
+scan-body-spec =
+    tie.close
+    (tie.spec
+    Inv-loop
+    μ-loop
+    returns
+    returns-2
+    loop-holds
+    step-at-requires
+    enum-told
+    returns-3
+    enum-told-2
+    returns-4
+    enum-known-step
+    kind-of-requires
+    note-requires
+    loop-less
+    loop-again)

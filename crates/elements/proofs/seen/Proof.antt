@@ -1,0 +1,24 @@
+use borrow.Author.Needs.{needs}
+use Rattle.elements.proofs.seen.Statement.{statement}
+use Rattle.elements.proofs.seen.Tie as tie
+
+enum-told : tie.Need-enum-told
+enum-told c = search needs
+
+enum-known-t : tie.Need-enum-known-t
+enum-known-t c = search needs
+
+enum-known-t-2 : tie.Need-enum-known-t-2
+enum-known-t-2 c = search needs
+
+returns : tie.Need-returns
+returns c = rw (c .enum-told .given .1)
+
+returns-2 : tie.Need-returns-2
+returns-2 c = rw (c .before .t .given .1)
+
+returns-3 : tie.Need-returns-3
+returns-3 c = rw (c .before .t2 .given .1)
+
+pub seen-spec : {M : Type 1} → statement M
+seen-spec = tie.close (tie.spec enum-told enum-known-t enum-known-t-2 returns returns-2 returns-3)

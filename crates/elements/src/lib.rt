@@ -1,0 +1,278 @@
+// The body of an Authentication frame: six octets, then elements.
+ghost use mathlib.Core.Path.{_≡_};
+ghost use Rattle.elements.specs.Body.{bodyOf};
+ghost use Rattle.elements.specs.Step.{stepAt};
+ghost use Rattle.elements.specs.Scan.{kindOf, plainKind, extendedKind, scanOf};
+ghost use Rattle.elements.specs.Noting.{seenOf, noteOf};
+
+// The octets in front of a body's elements.
+pub const HEADER: usize = 6;
+
+pub const LONGEST_BODY: usize = 1024;
+
+pub struct Header {
+    pub algorithm: u16,
+    pub transaction: u16,
+    pub status: u16,
+}
+
+// What a string of octets is by its length: a body, or none.
+pub enum Opened {
+    Body(Header),
+    NoBody,
+}
+
+pub fn open_body(s: &[u8]) -> Opened
+    ensures { λ r. ⌜ r ≡ bodyOf (now (s .entry)) ⌝ }
+{
+    if s.len() < HEADER {
+        return Opened::NoBody;
+    }
+    if LONGEST_BODY < s.len() {
+        return Opened::NoBody;
+    }
+    Opened::Body(Header {
+        algorithm: octets::le2(s, 0),
+        transaction: octets::le2(s, 2),
+        status: octets::le2(s, 4),
+    })
+}
+
+// The extension ID, which only an element of ID 255 has.
+pub enum Extension {
+    Id(u8),
+    Absent,
+}
+
+// An element: the place of its ID, where its content starts and how long that is, and the place after it.
+pub struct Element {
+    pub id: u8,
+    pub extension: Extension,
+    pub place: usize,
+    pub start: usize,
+    pub length: usize,
+    pub next: usize,
+}
+
+// What the walk meets at a place.
+pub enum Step {
+    Stands(Element),
+    End,
+    Failed,
+}
+
+pub fn step_at(s: &[u8], at: usize) -> Step
+    ensures { λ r. ⌜ r ≡ stepAt (now (s .entry)) at ⌝ }
+{
+    if s.len() <= at {
+        return Step::End;
+    }
+    if s.len() - at == 1 {
+        return Step::Failed;
+    }
+    let id = s[at];
+    let length = s[at + 1] as usize;
+    let start = at + 2;
+    if s.len() - start < length {
+        return Step::Failed;
+    }
+    if id != 255 {
+        return Step::Stands(Element {
+            id: id,
+            extension: Extension::Absent,
+            place: at,
+            start: start,
+            length: length,
+            next: start + length,
+        });
+    }
+    if length == 0 {
+        return Step::Failed;
+    }
+    Step::Stands(Element {
+        id: id,
+        extension: Extension::Id(s[start]),
+        place: at,
+        start: start,
+        length: length,
+        next: start + length,
+    })
+}
+
+// The elements that the rules speak of; all others are skipped.
+pub enum Kind {
+    Rsne,
+    Timeout,
+    Mic,
+    Fragment,
+    Parameters,
+    Wrapped,
+    Skipped,
+}
+
+fn plain_kind(id: u8) -> Kind
+    ensures { λ r. ⌜ r ≡ plainKind id ⌝ }
+{
+    if id == 48 {
+        return Kind::Rsne;
+    }
+    if id == 56 {
+        return Kind::Timeout;
+    }
+    if id == 140 {
+        return Kind::Mic;
+    }
+    if id == 242 {
+        return Kind::Fragment;
+    }
+    Kind::Skipped
+}
+
+fn extended_kind(extension: u8) -> Kind
+    ensures { λ r. ⌜ r ≡ extendedKind extension ⌝ }
+{
+    if extension == 100 {
+        return Kind::Parameters;
+    }
+    if extension == 8 {
+        return Kind::Wrapped;
+    }
+    Kind::Skipped
+}
+
+fn kind_of(e: Element) -> Kind
+    ensures { λ r. ⌜ r ≡ kindOf e ⌝ }
+{
+    let extension = e.extension;
+    match extension {
+        Extension::Id(x) => extended_kind(x),
+        Extension::Absent => plain_kind(e.id),
+    }
+}
+
+// The part of a body from `start` up to `end`.
+pub struct Part {
+    pub start: usize,
+    pub end: usize,
+}
+
+// How many elements of a kind there are, and the content of the first.
+pub enum Times {
+    None,
+    One(Part),
+    More(Part),
+}
+
+pub struct Places {
+    pub rsne: Times,
+    pub timeout: Times,
+    pub mic: Times,
+    pub fragment: Times,
+    pub parameters: Times,
+    pub wrapped: Times,
+}
+
+fn seen(t: Times, content: Part) -> Times
+    ensures { λ r. ⌜ r ≡ seenOf t content ⌝ }
+{
+    match t {
+        Times::None => Times::One(content),
+        Times::One(first) => Times::More(first),
+        Times::More(first) => Times::More(first),
+    }
+}
+
+fn note(p: Places, kind: Kind, content: Part) -> Places
+    ensures { λ r. ⌜ r ≡ noteOf p kind content ⌝ }
+{
+    match kind {
+        Kind::Rsne => {
+            let t = p.rsne;
+            Places {
+                rsne: seen(t, content),
+                ..p
+            }
+        }
+        Kind::Timeout => {
+            let t = p.timeout;
+            Places {
+                timeout: seen(t, content),
+                ..p
+            }
+        }
+        Kind::Mic => {
+            let t = p.mic;
+            Places {
+                mic: seen(t, content),
+                ..p
+            }
+        }
+        Kind::Fragment => {
+            let t = p.fragment;
+            Places {
+                fragment: seen(t, content),
+                ..p
+            }
+        }
+        Kind::Parameters => {
+            let t = p.parameters;
+            Places {
+                parameters: seen(t, content),
+                ..p
+            }
+        }
+        Kind::Wrapped => {
+            let t = p.wrapped;
+            Places {
+                wrapped: seen(t, content),
+                ..p
+            }
+        }
+        Kind::Skipped => p,
+    }
+}
+
+// A walk over a whole body: the place of the element that it failed at, or what stands where.
+pub enum Scan {
+    Failed(usize),
+    Walked(Places),
+}
+
+pub fn scan_body(body: &[u8]) -> Scan
+    ensures { λ r. ⌜ r ≡ scanOf (now (body .entry)) ⌝ }
+{
+    if body.len() < HEADER {
+        return Scan::Failed(0);
+    }
+    if LONGEST_BODY < body.len() {
+        return Scan::Failed(0);
+    }
+    let mut places = Places {
+        rsne: Times::None,
+        timeout: Times::None,
+        mic: Times::None,
+        fragment: Times::None,
+        parameters: Times::None,
+        wrapped: Times::None,
+    };
+    let mut at = HEADER;
+    loop {
+        let step = step_at(body, at);
+        match step {
+            Step::End => {
+                return Scan::Walked(places);
+            }
+            Step::Failed => {
+                return Scan::Failed(at);
+            }
+            Step::Stands(e) => {
+                let content = Part {
+                    start: e.start,
+                    end: e.next,
+                };
+                places = note(places, kind_of(e), content);
+                at = e.next;
+            }
+        }
+    }
+}

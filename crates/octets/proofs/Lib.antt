@@ -1,5 +1,7 @@
 pub mod Cases
 pub mod Equality
+pub mod Logic
 pub mod Numbers
+pub mod Pieces
 pub mod Parts
 pub mod Search

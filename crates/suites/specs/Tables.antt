@@ -1,0 +1,64 @@
+-- The suites and groups stand in fixed tables.
+use Prim.Native.Nat.{ℕ}
+use mathlib.Core.Bool.{Bool, true, false, _&&_, _||_, not}
+use mathlib.Core.List.{List, [], _∷_}
+use lib.Dec.{eqb, leb}
+use lib.ListN.{length, getD}
+use Rattle.octets.specs.Search.{first, entry}
+use Rattle.suites.specs.declared.Akm.{Akm}
+use Rattle.suites.specs.declared.AkmEntry.{AkmEntry}
+use Rattle.suites.specs.declared.Cipher.{Cipher}
+use Rattle.suites.specs.declared.CipherEntry.{CipherEntry}
+use Rattle.suites.specs.declared.KeyForm.{KeyForm}
+use Rattle.suites.specs.declared.Group.{Group}
+use Rattle.suites.specs.declared.GroupEntry.{GroupEntry}
+
+-- AKM types 5, 6, 8 and 21, each with a MIC of 16 octets; 21 is PASN itself, with no PMK
+abbrev pub akms : List Akm
+akms =
+    record { kind = 5; mic = 16; pmk = true }
+    ∷ record { kind = 6; mic = 16; pmk = true }
+    ∷ record { kind = 8; mic = 16; pmk = true }
+    ∷ record { kind = 21; mic = 16; pmk = false }
+    ∷ []
+
+unfoldable pub akmOf : ℕ → AkmEntry
+akmOf kind = entry AkmEntry.In AkmEntry.NotInTable (first (λ (a : Akm). eqb (a .kind) kind) akms)
+
+-- pairwise ciphers 4, 8, 9 and 10
+abbrev pub ciphers : List Cipher
+ciphers =
+    record { kind = 4; flag = 1 }
+    ∷ record { kind = 8; flag = 2 }
+    ∷ record { kind = 9; flag = 4 }
+    ∷ record { kind = 10; flag = 8 }
+    ∷ []
+
+unfoldable pub cipherOf : ℕ → CipherEntry
+cipherOf kind = entry CipherEntry.In CipherEntry.NotInTable (first (λ (c : Cipher). eqb (c .kind) kind) ciphers)
+
+-- group 19, with key length 33 (first octet 2 or 3) or 65 (first octet 4)
+abbrev pub groups : List Group
+groups =
+    record {
+      number = 19;
+      compressed = record { length = 33; lowest = 2; highest = 3 };
+      uncompressed = record { length = 65; lowest = 4; highest = 4 };
+    }
+    ∷ []
+
+unfoldable pub groupOf : ℕ → GroupEntry
+groupOf number = entry GroupEntry.In GroupEntry.NotInTable (first (λ (g : Group). eqb (g .number) number) groups)
+
+-- whether a key has a form: its length, and its first octet
+unfoldable pub hasForm : List ℕ → KeyForm → Bool
+hasForm key form =
+    eqb (length key) (form .length)
+    && not (eqb (length key) 0)
+    && leb (form .lowest) (getD key 0 0)
+    && leb (getD key 0 0) (form .highest)
+
+-- whether a key has one of a group's two forms
+unfoldable pub isKeyOf : Group → List ℕ → Bool
+unfolding hasForm
+isKeyOf group key = hasForm key (group .compressed) || hasForm key (group .uncompressed)

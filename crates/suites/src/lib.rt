@@ -1,0 +1,193 @@
+// The fixed tables of suites and groups, and the suite as it stands in a frame.
+ghost use mathlib.Core.Path.{_≡_};
+ghost use Prim.Native.Nat.{_+_, _≤_};
+ghost use lib.ListN.{length};
+ghost use Rattle.octets.specs.Wrote.{Wrote};
+ghost use Rattle.suites.specs.Suite.{suiteAt, suiteOctets};
+ghost use Rattle.suites.specs.Tables.{akmOf, cipherOf, groupOf, hasForm, isKeyOf};
+
+// The first three octets of every suite that counts.
+pub const SELECTOR: [u8; 3] = [0x00, 0x0f, 0xac];
+
+// A suite in a frame: one that counts, with its type, or one of another selector.
+pub enum Suite {
+    Ours(u8),
+    Other,
+}
+
+// The suite in the four octets of s from `at` on.
+pub fn suite_at(s: &[u8], at: usize) -> Suite
+    requires { ⌜ at + 4 ≤ length (now s) ⌝ }
+    ensures { λ r. ⌜ r ≡ suiteAt (now (s .entry)) at ⌝ }
+{
+    if s[at] == SELECTOR[0] {
+        if s[at + 1] == SELECTOR[1] {
+            if s[at + 2] == SELECTOR[2] {
+                return Suite::Ours(s[at + 3]);
+            }
+        }
+    }
+    Suite::Other
+}
+
+// Writes the suite of a type to the front of d.
+pub fn put_suite(d: &mut [u8], kind: u8) -> usize
+    requires { ⌜ 4 ≤ length (now d) ⌝ }
+    ensures { λ r. ⌜ Wrote (suiteOctets kind) r (now (d .entry)) (now (d .exit)) ⌝ }
+{
+    let suite = [SELECTOR[0], SELECTOR[1], SELECTOR[2], kind];
+    octets::copy_in(d, &suite)
+}
+
+// An AKM: its type, the octets of the MIC that goes with it, and whether it needs a PMK.
+pub struct Akm {
+    pub kind: u8,
+    pub mic: usize,
+    pub pmk: bool,
+}
+
+pub enum AkmEntry {
+    In(Akm),
+    NotInTable,
+}
+
+const AKMS: [Akm; 4] = [
+    Akm {
+        kind: 5,
+        mic: 16,
+        pmk: true,
+    },
+    Akm {
+        kind: 6,
+        mic: 16,
+        pmk: true,
+    },
+    Akm {
+        kind: 8,
+        mic: 16,
+        pmk: true,
+    },
+    Akm {
+        kind: 21,
+        mic: 16,
+        pmk: false,
+    },
+];
+
+pub fn akm_of(kind: u8) -> AkmEntry
+    ensures { λ r. ⌜ r ≡ akmOf kind ⌝ }
+{
+    for i in 0..4 {
+        let akm = AKMS[i];
+        if akm.kind == kind {
+            return AkmEntry::In(akm);
+        }
+    }
+    AkmEntry::NotInTable
+}
+
+// The one cipher of group and group management traffic.
+pub const GROUP_CIPHER: u8 = 7;
+
+// A pairwise cipher: its type, and its flag among the settings' allowed ciphers.
+pub struct Cipher {
+    pub kind: u8,
+    pub flag: u8,
+}
+
+pub enum CipherEntry {
+    In(Cipher),
+    NotInTable,
+}
+
+const CIPHERS: [Cipher; 4] = [
+    Cipher { kind: 4, flag: 1 },
+    Cipher { kind: 8, flag: 2 },
+    Cipher { kind: 9, flag: 4 },
+    Cipher { kind: 10, flag: 8 },
+];
+
+pub fn cipher_of(kind: u8) -> CipherEntry
+    ensures { λ r. ⌜ r ≡ cipherOf kind ⌝ }
+{
+    for i in 0..4 {
+        let cipher = CIPHERS[i];
+        if cipher.kind == kind {
+            return CipherEntry::In(cipher);
+        }
+    }
+    CipherEntry::NotInTable
+}
+
+// How a public key may be written: its octets, and the first octets that it may have, from `lowest` to `highest`.
+pub struct KeyForm {
+    pub length: usize,
+    pub lowest: u8,
+    pub highest: u8,
+}
+
+// A finite cyclic group, and the two forms of its public keys.
+pub struct Group {
+    pub number: u16,
+    pub compressed: KeyForm,
+    pub uncompressed: KeyForm,
+}
+
+pub enum GroupEntry {
+    In(Group),
+    NotInTable,
+}
+
+const GROUPS: [Group; 1] = [Group {
+    number: 19,
+    compressed: KeyForm {
+        length: 33,
+        lowest: 2,
+        highest: 3,
+    },
+    uncompressed: KeyForm {
+        length: 65,
+        lowest: 4,
+        highest: 4,
+    },
+}];
+
+pub fn group_of(number: u16) -> GroupEntry
+    ensures { λ r. ⌜ r ≡ groupOf number ⌝ }
+{
+    for i in 0..1 {
+        let group = GROUPS[i];
+        if group.number == number {
+            return GroupEntry::In(group);
+        }
+    }
+    GroupEntry::NotInTable
+}
+
+fn has_form(key: &[u8], form: KeyForm) -> bool
+    ensures { λ r. ⌜ r ≡ hasForm (now (key .entry)) form ⌝ }
+{
+    if key.len() != form.length {
+        return false;
+    }
+    if key.len() == 0 {
+        return false;
+    }
+    let first = key[0];
+    if first < form.lowest {
+        return false;
+    }
+    first <= form.highest
+}
+
+// Whether a key's length and first octet are those of one of the group's forms.
+pub fn is_key_of(group: Group, key: &[u8]) -> bool
+    ensures { λ r. ⌜ r ≡ isKeyOf group (now (key .entry)) ⌝ }
+{
+    let compressed = group.compressed;
+    let uncompressed = group.uncompressed;
+    if has_form(key, compressed) {
+        return true;
+    }
+    has_form(key, uncompressed)
+}

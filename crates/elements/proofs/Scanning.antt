@@ -23,6 +23,7 @@ use Rattle.elements.specs.Step.{stepAt}
 use Rattle.elements.specs.Walk.{Walk, walked, failedAt, _then_, walk, walkBody}
 use Rattle.elements.specs.Scan.{plainKind, kindBy, kindOf, number, isKind, ofKind, partOf, timesOf, placesOf, scanBy, scanOf}
 use Rattle.elements.specs.Noting.{seenOf, markOf, noteOf}
+use Rattle.elements.specs.Within.{Lies, LiesIf, Within}
 use Rattle.elements.proofs.Steps.{Stood}
 use Rattle.elements.proofs.Walk.{then-none, then-then, walk-stands, walk-ends, walk-fails, Each, EachOf, each-stood}
 
@@ -109,11 +110,6 @@ fewest-one n = go (eqb n (number Parameters)) (eqb n (number Wrapped))
     go false true = omega arith
     go false false = omega arith
 
--- where the content of an element lies: it is so long at least, and within the body
-pub record Lies (least n : ℕ) (p : Part) : Type 0 where
-  pub long : p .start + least ≤ p .end
-  pub within : p .end ≤ n
-
 element-lies : (s : List ℕ) (e : Element) → Stood s (e .place) e → Lies (fewest (number (kindOf e))) (length s) (partOf e)
 element-lies s e st = record { long = omega (arith, long (eqb (getD s (e .place) 0) 255) refl); within = st .within }
   where
@@ -125,11 +121,6 @@ element-lies s e st = record { long = omega (arith, long (eqb (getD s (e .place)
         let x : e .extension ≡ Absent = ap (λ (e : Element). e .extension) (st .is) ∙ rw q in
         let k : kindOf e ≡ plainKind (e .id) = ap (λ (x : Extension). kindBy (e .id) x) x in
         omega (arith, ap (λ (k : Kind). fewest (number k)) k ∙ plain-fewest (e .id))
-
-abbrev pub LiesIf : ℕ → ℕ → Times → Type 0
-LiesIf least n None = Unit {0}
-LiesIf least n (One p) = Lies least n p
-LiesIf least n (More p) = Lies least n p
 
 kind-lies : (s : List ℕ) (k : Kind) (es : List Element) → Each (λ e. Stood s (e .place) e) es
     → Each (λ e. Lies (fewest (number k)) (length s) (partOf e)) (ofKind k es)
@@ -146,15 +137,6 @@ times-lie : (least n : ℕ) (es : List Element) → Each (λ e. Lies least n (pa
 times-lie least n [] h = tt
 times-lie least n (e ∷ []) h = h .0
 times-lie least n (e ∷ f ∷ es) h = h .0
-
--- What the scan finds lies within the body, and an element of ID 255 has its extension ID.
-pub record Within (n : ℕ) (p : Places) : Type 0 where
-  pub rsne : LiesIf 0 n (p .rsne)
-  pub timeout : LiesIf 0 n (p .timeout)
-  pub mic : LiesIf 0 n (p .mic)
-  pub fragment : LiesIf 0 n (p .fragment)
-  pub parameters : LiesIf 1 n (p .parameters)
-  pub wrapped : LiesIf 1 n (p .wrapped)
 
 within-walk : (s : List ℕ) (es : List Element) → Each (λ e. Stood s (e .place) e) es → Within (length s) (placesOf es)
 unfolding placesOf
@@ -176,6 +158,7 @@ walked-same e = cc
 failed-walked : {at : ℕ} {p : Places} → Scan.Failed at ≡ Scan.Walked p → ⊥
 failed-walked e = let z : _≡_ {A = ℕ} 0 1 = cc in omega arith
 
+-- What the scan finds lies within the body.
 pub within : (s : List ℕ) (p : Places) → scanOf s ≡ Scan.Walked p → Within (length s) p
 unfolding scanOf walkBody
 within s p q = go (ltb (length s) 6) (ltb 1024 (length s)) (walk s 6) (each-stood s 6) q

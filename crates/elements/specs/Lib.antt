@@ -3,3 +3,4 @@ pub mod Step
 pub mod Walk
 pub mod Scan
 pub mod Noting
+pub mod Within

@@ -1,4 +1,5 @@
 pub mod Cases
+pub mod Choice
 pub mod Equality
 pub mod Logic
 pub mod Numbers

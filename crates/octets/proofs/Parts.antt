@@ -4,8 +4,8 @@ use mathlib.Core.List.{List, [], _∷_, _++_, append-assoc, append-nil}
 use Prim.Native.Nat.{ℕ, _+_, _-_, _<_, _≤_}
 use native.Mathlib.Omega.{arith}
 use native.Mathlib.Numerals.{add-one}
-use lib.ListN.{length, take, drop, set, length-append, length-drop, length-set}
-use lib.Seq.{take-all, drop-drop, drop-length, drop-cons, set-at, take-at, drop-at}
+use lib.ListN.{length, take, drop, set, length-append, length-drop, length-set, take-append-drop}
+use lib.Seq.{length-take-le, take-all, drop-drop, drop-length, drop-cons, set-at, take-at, drop-at}
 use borrow.Rule.Slice.PartMut.{putMid, midOf, same-len-mid}
 use Rattle.octets.specs.Wrote.{Wrote}
 
@@ -42,6 +42,12 @@ writing-done f {d₀} {d} {i} {n} w h k =
 pub wrote-none : (d : List ℕ) → Wrote [] 0 d d
 wrote-none d = record { tells = refl; leaves = refl }
 
+-- what stands already counts as written
+pub wrote-front : (d : List ℕ) (a : ℕ) → a ≤ length d → Wrote (take a d) a d d
+wrote-front d a h =
+    let n : length (take a d) ≡ a = length-take-le a d h in
+    record { tells = sym n; leaves = sym (ap (λ (k : ℕ). take a d ++ drop k d) n ∙ take-append-drop a d) }
+
 pub wrote-length : {written before after : List ℕ} {n : ℕ} → Wrote written n before after → length written ≤ length before
     → length after ≡ length before
 wrote-length {written} {before} {after} w h =
@@ -55,8 +61,16 @@ module _ {written before after : List ℕ} {a : ℕ} (w : Wrote written a before
   part : take (length after - a) (drop a after) ≡ drop a before
   part = take-all (length after - a) (drop a after) (omega (arith, length-drop a after)) ∙ rest
 
-  pub wrote-room : (n : ℕ) → a + n ≤ length before → n ≤ length (take (length after - a) (drop a after))
-  wrote-room n h = rw part (omega (arith, length-drop a before))
+  -- the next writer has a part to be lent, with room for n octets
+  pub record Room (n : ℕ) : Type 0 where
+    pub start : a ≤ length after
+    pub room : n ≤ length (take (length after - a) (drop a after))
+
+  pub wrote-room : (n : ℕ) → a + n ≤ length before → Room n
+  wrote-room n h = record {
+    start = omega (arith, wrote-length w (omega (arith, w .tells)));
+    room = rw part (omega (arith, length-drop a before));
+  }
 
   -- the next writer was lent the part from a on, and wrote `more` there
   pub wrote-more : {more ys : List ℕ} {n : ℕ} → Wrote more n (take (length after - a) (drop a after)) ys

@@ -1,4 +1,5 @@
 pub mod Choice
+pub mod Maybe
 pub mod Numbers
 pub mod Pieces
 pub mod Equality

@@ -25,6 +25,14 @@ akms =
 unfoldable pub akmOf : ℕ → AkmEntry
 akmOf kind = entry AkmEntry.In AkmEntry.NotInTable (first (λ (a : Akm). eqb (a .kind) kind) akms)
 
+-- whether a MIC of n octets goes with an AKM of the table
+unfoldable pub isMicLength : ℕ → Bool
+isMicLength n = entry (λ (a : Akm). true) false (first (λ (a : Akm). eqb (a .mic) n) akms)
+
+-- the group cipher, and the group management cipher
+abbrev pub groupCipher : ℕ
+groupCipher = 7
+
 -- pairwise ciphers 4, 8, 9 and 10
 abbrev pub ciphers : List Cipher
 ciphers =

@@ -4,7 +4,7 @@ ghost use Prim.Native.Nat.{_+_, _≤_};
 ghost use lib.ListN.{length};
 ghost use Rattle.octets.specs.Wrote.{Wrote};
 ghost use Rattle.suites.specs.Suite.{suiteAt, suiteOctets};
-ghost use Rattle.suites.specs.Tables.{akmOf, cipherOf, groupOf, hasForm, isKeyOf};
+ghost use Rattle.suites.specs.Tables.{akmOf, isMicLength, cipherOf, groupOf, hasForm, isKeyOf};
 
 // The first three octets of every suite that counts.
 pub const SELECTOR: [u8; 3] = [0x00, 0x0f, 0xac];
@@ -84,6 +84,19 @@ pub fn akm_of(kind: u8) -> AkmEntry
         }
     }
     AkmEntry::NotInTable
+}
+
+// Whether a MIC of n octets goes with an AKM of the table.
+pub fn is_mic_length(n: usize) -> bool
+    ensures { λ r. ⌜ r ≡ isMicLength n ⌝ }
+{
+    for i in 0..4 {
+        let akm = AKMS[i];
+        if akm.mic == n {
+            return true;
+        }
+    }
+    false
 }
 
 // The one cipher of group and group management traffic.

@@ -1,0 +1,88 @@
+-- Laws of the file from a place on, by what stands there.
+use mathlib.Core.Path.{_≡_, refl, sym, ap, _∙_}
+use mathlib.Core.Bool.{true, false, false≢true}
+use mathlib.Core.List.{List, [], _∷_}
+use Prim.Native.Nat.{ℕ, zero, suc, _-_, _<_}
+use native.Mathlib.Omega.{arith}
+use Rattle.cache.specs.declared.Read.{Read}
+use Rattle.cache.specs.declared.Read.the-variants.{Stands, End, Ill}
+use Rattle.cache.specs.File.{readAt, Cached, cachedAt, Cache, records, illFormed, _before_, onward, cacheFrom, cacheOf, wellFormed, recordsIn, isWellFormed, recordsOf}
+
+-- what follows a record, where so many may come, that record among them
+abbrev later : ℕ → List ℕ → ℕ → Cache
+later zero file next = illFormed
+later (suc more) file next = cacheFrom more file next
+
+before-well : (c : Cached) (w : Cache) → wellFormed (c before w) ≡ wellFormed w
+before-well c (records cs) = refl
+before-well c illFormed = refl
+
+module _ (more : ℕ) (file : List ℕ) (at : ℕ) where
+  from-by : {r : Read} → readAt file at ≡ r → cacheFrom more file at ≡ onward (later more file) file r
+  unfolding cacheFrom
+  from-by {r} q = go more
+    where
+      go : (m : ℕ) → cacheFrom m file at ≡ onward (later m file) file r
+      go zero = ap (onward (later zero file) file) q
+      go (suc m) = ap (onward (later (suc m) file) file) q
+
+  pub well-end : readAt file at ≡ End → wellFormed (cacheFrom more file at) ≡ true
+  well-end q = ap wellFormed (from-by q)
+
+  pub well-ill : readAt file at ≡ Ill → wellFormed (cacheFrom more file at) ≡ false
+  well-ill q = ap wellFormed (from-by q)
+
+  module _ {value next : ℕ} (q : readAt file at ≡ Stands value next) where
+    well-later : wellFormed (cacheFrom more file at) ≡ wellFormed (later more file next)
+    well-later = ap wellFormed (from-by q) ∙ before-well (cachedAt file value) (later more file next)
+
+    pub well-full : more ≡ 0 → wellFormed (cacheFrom more file at) ≡ false
+    well-full e = well-later ∙ ap (λ (m : ℕ). wellFormed (later m file next)) e
+
+    pub well-record : 0 < more → wellFormed (cacheFrom more file at) ≡ wellFormed (cacheFrom (more - 1) file next)
+    well-record h =
+        let e : more ≡ suc (more - 1) = omega arith in
+        well-later ∙ ap (λ (m : ℕ). wellFormed (later m file next)) e
+
+records-same : {cs ds : List Cached} → records cs ≡ records ds → ds ≡ cs
+records-same e = cc
+
+ill-records : {cs : List Cached} → illFormed ≡ records cs → ⊥
+ill-records e = let z : _≡_ {A = ℕ} 0 1 = cc in omega arith
+
+-- The records of a well-formed file from a place on.
+pub record From (file : List ℕ) (at : ℕ) (cs : List Cached) : Type 0 where
+  pub more : ℕ
+  pub are : cacheFrom more file at ≡ records cs
+
+pub from-start : (file : List ℕ) → isWellFormed file ≡ true → From file 0 (recordsOf file)
+unfolding isWellFormed recordsOf cacheOf
+from-start file h = record { more = 64; are = go (cacheFrom 64 file 0) h }
+  where
+    go : (w : Cache) → wellFormed w ≡ true → w ≡ records (recordsIn w)
+    go (records cs) e = refl
+    go illFormed e = absurd (false≢true e)
+
+-- a record, and those from the next place on
+pub record Then (file : List ℕ) (value next : ℕ) (cs : List Cached) : Type 0 where
+  pub rest : List Cached
+  pub are : cs ≡ cachedAt file value ∷ rest
+  pub from : From file next rest
+
+module _ {file : List ℕ} {at : ℕ} {cs : List Cached} (g : From file at cs) where
+  pub none-left : readAt file at ≡ End → cs ≡ []
+  none-left q = records-same (sym (from-by (g .more) file at q) ∙ g .are)
+
+  pub not-ill : readAt file at ≡ Ill → ⊥
+  not-ill q = ill-records (sym (from-by (g .more) file at q) ∙ g .are)
+
+  pub one-left : {value next : ℕ} → readAt file at ≡ Stands value next → Then file value next cs
+  one-left {value} {next} q = go (g .more) (sym (from-by (g .more) file at q) ∙ g .are)
+    where
+      by : (m : ℕ) (w : Cache) → cacheFrom m file next ≡ w → cachedAt file value before w ≡ records cs → Then file value next cs
+      by m (records ds) e h = record { rest = ds; are = records-same h; from = record { more = m; are = e } }
+      by m illFormed e h = absurd (ill-records h)
+
+      go : (m : ℕ) → cachedAt file value before later m file next ≡ records cs → Then file value next cs
+      go zero h = absurd (ill-records h)
+      go (suc m) h = by m (cacheFrom m file next) refl h

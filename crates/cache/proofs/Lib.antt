@@ -1,0 +1,5 @@
+pub mod Cases
+pub mod Records
+pub mod File
+pub mod Search
+pub mod Laws

@@ -1,0 +1,42 @@
+-- Parts of parts: where what an element says lies in the body.
+use mathlib.Core.Path.{_≡_, ap, _∙_}
+use mathlib.Core.List.{List}
+use Prim.Native.Nat.{ℕ, _+_, _-_, _≤_, min}
+use native.Mathlib.Omega.{arith}
+use lib.ListN.{length, take, drop, length-take, length-drop}
+use lib.Seq.{drop-drop, take-take}
+use Rattle.elements.specs.declared.Part.{Part}
+use Rattle.elements.specs.declared.Times.{Times}
+use Rattle.elements.specs.declared.Times.the-variants.{One}
+use Rattle.elements.specs.Within.{Lies, LiesIf}
+use Rattle.layouts.specs.declared.parameters.Offer.{Offer}
+use Rattle.layouts.specs.declared.parameters.Parameters.{Parameters}
+use Rattle.layouts.specs.declared.parameters.Reading as parameters
+use Rattle.layouts.specs.declared.rsne.Reading as rsne
+use Rattle.layouts.specs.declared.rsne.Rsne.{Rsne}
+use Rattle.layouts.specs.Parameters.{parametersOf}
+use Rattle.layouts.specs.Rsne.{rsneOf}
+use Rattle.layouts.proofs.parameters.Laws.{parts-lie}
+use Rattle.layouts.proofs.rsne.Laws.{pmkids-lie}
+use Rattle.frames.specs.Contents.{content, shifted, extended}
+use Rattle.frames.proofs.Otherwise.{one-lies}
+
+pub length-content : (s : List ℕ) (p : Part) → Lies 0 (length s) p → length (content s p) ≡ p .end - p .start
+length-content s p l = length-take (p .end - p .start) (drop (p .start) s) ∙ omega (arith, length-drop (p .start) s)
+
+pub shifted-lies : (s : List ℕ) (p q : Part) → Lies 0 (length s) p → Lies 0 (length (content s p)) q → Lies 0 (length s) (shifted (p .start) q)
+shifted-lies s p q l m = record { long = omega arith; within = omega (arith, length-content s p l) }
+
+-- what follows an extension ID
+pub extended-lies : {n : ℕ} {p : Part} → Lies 1 n p → Lies 0 n (extended p)
+extended-lies l = record { long = omega arith; within = l .within }
+
+module _ (body : List ℕ) {t : Times} {p : Part} (one : t ≡ One p) where
+  pub rsne-lies : {r : Rsne} → LiesIf 0 (length body) t → rsneOf (content body p) ≡ rsne.Reading.Is r
+      → Lies 0 (length body) (shifted (p .start) (r .pmkids))
+  rsne-lies {r} l e = shifted-lies body p (r .pmkids) (one-lies one l) (pmkids-lie (content body p) e .lies)
+
+  pub key-lies : {r : Parameters} {group : ℕ} {key : Part} → LiesIf 1 (length body) t → parametersOf (content body (extended p)) ≡ parameters.Reading.Is r
+      → r .offer ≡ Offer.Key group key → Lies 0 (length body) (shifted (p .start + 1) key)
+  key-lies {r} {group} {key} l e o =
+      shifted-lies body (extended p) key (extended-lies (one-lies one l)) (parts-lie (content body (extended p)) e .key o)

@@ -1,0 +1,26 @@
+-- An enum at a match: what is known of the variant that the code goes on with, and what the enum is otherwise.
+use mathlib.Core.Path.{_≡_, refl, subst}
+use mathlib.Core.Logic.{_⊎_, ⊎-elim}
+use Prim.Native.Nat.{ℕ}
+use native.Mathlib.Omega.{arith}
+use denote.Enum.Declared.{tagOf}
+use Rattle.elements.specs.declared.Part.{Part}
+use Rattle.elements.specs.declared.Times.{Times}
+use Rattle.elements.specs.declared.Times.the-variants.{None, One, More}
+use Rattle.elements.specs.Within.{Lies, LiesIf, Ordered}
+use Rattle.elements.proofs.Times as Times'
+
+-- where the one element of a kind lies
+pub one-lies : {least n : ℕ} {t : Times} {p : Part} → t ≡ One p → LiesIf least n t → Lies least n p
+one-lies {least} {n} e h = subst (LiesIf least n) e h
+
+pub ordered : (n : ℕ) (t : Times) → LiesIf 0 n t → Ordered t
+ordered n None l = tt
+ordered n (One p) l = omega arith
+ordered n (More p) l = omega arith
+
+pub not-one {ℓ} : {A : Type ℓ} (f : Times → A) {x : A} → f None ≡ x → ((p : Part) → f (More p) ≡ x)
+    → (t : Times) → (tagOf Times'.the-type t ≡ 0) ⊎ (tagOf Times'.the-type t ≡ 2) → f t ≡ x
+not-one f n m None h = n
+not-one f n m (One p) h = absurd (⊎-elim (λ e. omega arith) (λ e. omega arith) h)
+not-one f n m (More p) h = m p

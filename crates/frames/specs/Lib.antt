@@ -1,0 +1,5 @@
+pub mod Bodies
+pub mod Contents
+pub mod First
+pub mod Second
+pub mod Third

@@ -1,0 +1,4 @@
+pub mod Mic
+pub mod Parameters
+pub mod Rsne
+pub mod Timeout

@@ -1,0 +1,5 @@
+// The elements' contents, each read and written in one file.
+pub mod mic;
+pub mod parameters;
+pub mod rsne;
+pub mod timeout;

@@ -2,3 +2,4 @@ pub mod Cases
 pub mod Steps
 pub mod Walk
 pub mod Scanning
+pub mod Unread

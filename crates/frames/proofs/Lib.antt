@@ -1,2 +1,3 @@
 pub mod Otherwise
 pub mod Inner
+pub mod Vectors

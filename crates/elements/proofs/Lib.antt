@@ -3,3 +3,4 @@ pub mod Steps
 pub mod Walk
 pub mod Scanning
 pub mod Unread
+pub mod Written

@@ -1,3 +1,4 @@
 pub mod Otherwise
 pub mod Inner
 pub mod Vectors
+pub mod Cases

@@ -40,12 +40,12 @@ is-within low high n e =
 
 pub record AkmFound (kind : ℕ) (akm : Akm) : Type 0 where
   pub asked : akm .kind ≡ kind
-  pub mic : Within 1 255 (akm .mic)
+  pub mic : Within 1 16 (akm .mic)
 
 pub akm-found : {kind : ℕ} {akm : Akm} → akmOf kind ≡ AkmEntry.In akm → AkmFound kind akm
 unfolding akmOf
 akm-found {kind} {akm} e =
-    let p = looked-up (λ (a : Akm). a .kind) akms kind AkmEntry.In AkmEntry.NotInTable (λ x y q. cc) (λ x q. cc) (λ a. within 1 255 (a .mic)) refl akm e in
+    let p = looked-up (λ (a : Akm). a .kind) akms kind AkmEntry.In AkmEntry.NotInTable (λ x y q. cc) (λ x q. cc) (λ a. within 1 16 (a .mic)) refl akm e in
     record { asked = p .0; mic = is-within _ _ _ (p .1) }
 
 pub record CipherFound (kind : ℕ) (cipher : Cipher) : Type 0 where
@@ -103,12 +103,12 @@ suite-reads-back kind before after =
     suite-ext (before ++ rest) rest (length before) 0 λ i h. simp (getD-append-add, zero-add)
 
 -- a length that goes with some AKM is one that an element can have
-pub mic-length : (n : ℕ) → isMicLength n ≡ true → Within 1 255 n
+pub mic-length : (n : ℕ) → isMicLength n ≡ true → Within 1 16 n
 unfolding isMicLength
 mic-length n e = go (first (λ (a : Akm). eqb (a .mic) n) akms) refl e
   where
-    go : (o : Option Akm) → first (λ (a : Akm). eqb (a .mic) n) akms ≡ o → entry (λ (a : Akm). true) false o ≡ true → Within 1 255 n
+    go : (o : Option Akm) → first (λ (a : Akm). eqb (a .mic) n) akms ≡ o → entry (λ (a : Akm). true) false o ≡ true → Within 1 16 n
     go none q e = absurd (false≢true e)
     go (some a) q e =
-        let p = first-found (λ (a : Akm). eqb (a .mic) n) (λ a. within 1 255 (a .mic)) akms a refl q in
-        rw (eqb-true (a .mic) n (p .0)) at (is-within 1 255 (a .mic) (p .1))
+        let p = first-found (λ (a : Akm). eqb (a .mic) n) (λ a. within 1 16 (a .mic)) akms a refl q in
+        rw (eqb-true (a .mic) n (p .0)) at (is-within 1 16 (a .mic) (p .1))

@@ -1,0 +1,155 @@
+// The records of peers, at most one to an address: what a table shows, and how records come and go.
+use units::Seconds;
+use units::Tu;
+ghost use mathlib.Core.Path.{_≡_};
+ghost use mathlib.Core.List.{[], _∷_};
+ghost use Rattle.peers.specs.View.{live, isOf, own, other, full, vacantPeer};
+ghost use Rattle.peers.specs.Promises.{Nobody, Finds, Puts, Drops};
+
+// A handshake that waits for its third frame until a deadline, or a key that is installed until its end.
+pub enum Phase {
+    Waiting(Tu),
+    Installed(Tu),
+}
+
+// A record. Where it has no PMKID, `cached` is false and `pmkid` zeros.
+pub struct Peer {
+    pub address: [u8; 6],
+    pub pmkid: [u8; 16],
+    pub cached: bool,
+    pub phase: Phase,
+    pub cipher: u8,
+    pub akm: u8,
+    pub lifetime: Seconds,
+}
+
+// Sixteen places, and the latest clock reading. A place is free where its record is not live.
+pub struct Table {
+    pub peers: [Peer; 16],
+    pub latest: Tu,
+}
+
+// The place of a record, which only indexes the table that was searched.
+pub enum Found {
+    At(usize),
+    Nothing,
+}
+
+fn is_live(p: Peer, at: Tu) -> bool
+    ensures { λ r. ⌜ r ≡ live p at ⌝ }
+{
+    let phase = p.phase;
+    match phase {
+        Phase::Waiting(deadline) => at.0 < deadline.0,
+        Phase::Installed(end) => at.0 < end.0,
+    }
+}
+
+fn is_of(p: Peer, address: [u8; 6]) -> bool
+    ensures { λ r. ⌜ r ≡ isOf p address ⌝ }
+{
+    octets::same(&p.address, &address)
+}
+
+// Whether p is a live record of the address.
+fn is_own(p: Peer, address: [u8; 6], at: Tu) -> bool
+    ensures { λ r. ⌜ r ≡ own at address p ⌝ }
+{
+    if is_of(p, address) {
+        return is_live(p, at);
+    }
+    false
+}
+
+// Whether p is a live record of another address.
+fn is_other(p: Peer, address: [u8; 6], at: Tu) -> bool
+    ensures { λ r. ⌜ r ≡ other at (address ∷ []) p ⌝ }
+{
+    if is_live(p, at) {
+        return !is_of(p, address);
+    }
+    false
+}
+
+// What stands in a place without a record.
+pub fn vacant() -> Peer
+    ensures { λ r. ⌜ r ≡ vacantPeer ⌝ }
+{
+    Peer {
+        address: [0; 6],
+        pmkid: [0; 16],
+        cached: false,
+        phase: Phase::Waiting(Tu(0)),
+        cipher: 0,
+        akm: 0,
+        lifetime: Seconds(0),
+    }
+}
+
+pub fn empty() -> Table
+    ensures { λ r. ⌜ Nobody r ⌝ }
+{
+    let v = vacant();
+    Table {
+        peers: [v; 16],
+        latest: Tu(0),
+    }
+}
+
+// The place of the record that is shown for the address.
+pub fn find(t: Table, address: [u8; 6], reading: Tu) -> Found
+    ensures { λ r. ⌜ Finds t address reading r ⌝ }
+{
+    for i in 0..16 {
+        let p = t.peers[i];
+        if is_own(p, address, reading) {
+            return Found::At(i);
+        }
+    }
+    Found::Nothing
+}
+
+// Whether there are sixteen live records, all of other addresses.
+pub fn is_full(t: Table, address: [u8; 6], reading: Tu) -> bool
+    ensures { λ r. ⌜ r ≡ full t reading address ⌝ }
+{
+    for i in 0..16 {
+        let p = t.peers[i];
+        if !is_other(p, address, reading) {
+            return false;
+        }
+    }
+    true
+}
+
+// Stores p in the first place without a live record of another address, and clears the further ones. A full table stays as it is.
+pub fn put(t: Table, p: Peer, reading: Tu) -> Table
+    ensures { λ r. ⌜ Puts t p reading r ⌝ }
+{
+    let address = p.address;
+    let mut u = t;
+    let mut next = p;
+    for i in 0..16 {
+        let q = u.peers[i];
+        if !is_other(q, address, reading) {
+            u.peers[i] = next;
+            next = vacant();
+        }
+    }
+    u
+}
+
+// Clears every place that has the address.
+pub fn drop(t: Table, address: [u8; 6]) -> Table
+    ensures { λ r. ⌜ Drops t address r ⌝ }
+{
+    let blank = vacant();
+    let mut u = t;
+    for place in 0..16 {
+        let q = u.peers[place];
+        if is_of(q, address) {
+            u.peers[place] = blank;
+        }
+    }
+    u
+}

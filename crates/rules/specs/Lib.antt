@@ -1,0 +1,2 @@
+pub mod OnePeer
+pub mod Told

@@ -1,0 +1,58 @@
+// The rules for one peer: what a first and what a third frame get. No table stands in them.
+pub mod first;
+pub mod third;
+
+use peers::Peer;
+use units::Seconds;
+use units::Tu;
+
+// What the host allows. A cipher is allowed by its flag of `suites`.
+pub struct Settings {
+    pub pmkless: bool,
+    pub ciphers: u8,
+    pub lifetime: Seconds,
+    pub deadline: Tu,
+}
+
+// What a receive brings, beside its strings of octets.
+pub struct Brought {
+    pub settings: Settings,
+    pub reading: Tu,
+    pub address: [u8; 6],
+    pub point: bool,
+}
+
+// What a receive answers; `Refused` carries the status.
+pub enum Answer {
+    Accepted,
+    ClockOut,
+    BufferShort,
+    SettingsOut,
+    GroupAddress,
+    CacheIll,
+    OwnKey,
+    BodyLength,
+    Algorithm,
+    Transaction,
+    PeerInstalled,
+    Refused(u16),
+    StatusNotZero,
+    NoExchange,
+    ThirdRefused,
+    Installed,
+}
+
+// What a frame leaves of this peer's record.
+pub enum Leaves {
+    Same,
+    WaitingGoes,
+    Becomes,
+}
+
+// What a frame gets: the answer, the octets of the reply, and what becomes of the record: `peer`, where it `Becomes` one.
+pub struct Verdict {
+    pub answer: Answer,
+    pub length: usize,
+    pub leaves: Leaves,
+    pub peer: Peer,
+}

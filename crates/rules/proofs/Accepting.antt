@@ -33,11 +33,11 @@ module _ (brought : Brought) (d : Decided) (file key body : List ℕ) (algorithm
         record { one = h; mic = f .mic; keys = f .keys key; room = k }
 
     pub cached-same : d .cached ≡ true → length (d .pmkid) ≡ 16 → (own : Option Peer)
-        → acceptedOf brought d (d .pmkid) (d .pmkid) algorithm key own ≡ firstFor brought file key body algorithm full own
+        → acceptedOf brought d (d .pmkid) (d .pmkid) algorithm key ≡ firstFor brought file key body algorithm full own
     cached-same h n own =
         let z : eqb (length (d .pmkid)) 0 ≡ false = ne-eqb (length (d .pmkid)) 0 (λ e. omega arith) in
         rw (sym decided ∙ ap (decidedBy d) passed, h, z)
 
     pub uncached-same : d .cached ≡ false → (own : Option Peer)
-        → acceptedOf brought d (replicate 16 0) [] algorithm key own ≡ firstFor brought file key body algorithm full own
+        → acceptedOf brought d (replicate 16 0) [] algorithm key ≡ firstFor brought file key body algorithm full own
     uncached-same h own = rw (sym decided ∙ ap (decidedBy d) passed, h)

@@ -20,58 +20,59 @@ use Rattle.peers.specs.declared.Phase.the-variants.{Waiting, Installed}
 use Rattle.rules.specs.declared.Answer.{Answer}
 use Rattle.rules.specs.declared.Leaves.{Leaves}
 use Rattle.rules.specs.declared.Verdict.{Verdict}
-use Rattle.rules.specs.OnePeer.{Call, Outcome, same, kept, installedPeer, thirdMic, thirdAkm, thirdOn, thirdFrame}
-use Rattle.rules.specs.Told.{recordAfter, Only, Decides}
+use Rattle.rules.specs.OnePeer.{Call, Outcome, gone, becomes, unchanged, waitingGoes, installedPeer, thirdMic, thirdAkm, thirdOn, thirdFrame}
+use Rattle.rules.specs.Told.{leftOf, Only, Decides}
 
 pub decides-same : {o o' : Outcome} {own : Option Peer} {r : Verdict} → o ≡ o' → Decides o own r → Decides o' own r
 decides-same {own = own} {r = r} e d = subst (λ (o : Outcome). Decides o own r) e d
 
-pub stays : {answer : Answer} {r : Verdict} (own : Option Peer) → Only answer Leaves.Same r → Decides (same answer own) own r
+-- the waiting record is lost
+abbrev lost : Answer → Outcome
+lost answer = record { answer = answer; reply = []; leaves = gone }
+
+pub stays : {answer : Answer} {r : Verdict} (own : Option Peer) → Only answer Leaves.Same r → Decides (unchanged answer) own r
 stays {answer} {r} own v = record {
   answer = v .answered;
   silent = refl;
   told = v .told;
-  leaves = ap (λ (l : Leaves). recordAfter own l (r .peer)) (v .left);
+  leaves = ap (λ (l : Leaves). leftOf own l (r .peer)) (v .left);
 }
 
 pub goes : {answer : Answer} {r : Verdict} {deadline : Tu} (p : Peer) → p .phase ≡ Waiting deadline → Only answer Leaves.WaitingGoes r
-    → Decides (record { answer = answer; reply = []; peer = none }) (some p) r
+    → Decides (lost answer) (some p) r
 goes {answer} {r} p h v = record {
   answer = v .answered;
   silent = refl;
   told = v .told;
-  leaves = ap (λ (l : Leaves). recordAfter (some p) l (r .peer)) (v .left) ∙ ap (kept p) h;
+  leaves = ap (λ (l : Leaves). leftOf (some p) l (r .peer)) (v .left) ∙ ap waitingGoes h;
 }
 
-abbrev gone : Answer → Outcome
-gone answer = record { answer = answer; reply = []; peer = none }
-
 -- a third frame, by what is known of it
-pub third-installed : (call : Call) (status : ℕ) (p : Peer) {end : Tu} → p .phase ≡ Installed end → thirdFrame call status (some p) ≡ same Answer.NoExchange (some p)
+pub third-installed : (call : Call) (status : ℕ) (p : Peer) {end : Tu} → p .phase ≡ Installed end → thirdFrame call status (some p) ≡ unchanged Answer.NoExchange
 third-installed call status p h = ap (thirdOn call status p) h
 
 module _ (call : Call) (status : ℕ) (p : Peer) {deadline : Tu} (waits : p .phase ≡ Waiting deadline) where
-  pub third-status : (status ≡ 0 → ⊥) → thirdFrame call status (some p) ≡ gone Answer.StatusNotZero
+  pub third-status : (status ≡ 0 → ⊥) → thirdFrame call status (some p) ≡ lost Answer.StatusNotZero
   third-status h = ap (thirdOn call status p) waits ∙ rw (ne-eqb status 0 h)
 
   module _ (zero : status ≡ 0) where
     by-akm : thirdFrame call status (some p) ≡ thirdAkm call p (akmOf (p .akm))
     by-akm = ap (thirdOn call status p) waits ∙ rw (eq-eqb status 0 zero)
 
-    pub third-unlisted : akmOf (p .akm) ≡ AkmEntry.NotInTable → thirdFrame call status (some p) ≡ gone Answer.ThirdRefused
+    pub third-unlisted : akmOf (p .akm) ≡ AkmEntry.NotInTable → thirdFrame call status (some p) ≡ lost Answer.ThirdRefused
     third-unlisted h = by-akm ∙ ap (thirdAkm call p) h
 
     module _ {akm : Akm} (listed : akmOf (p .akm) ≡ AkmEntry.In akm) where
       by-mic : thirdFrame call status (some p) ≡ thirdMic call p (thirdOf (call .body) (akm .mic))
       by-mic = by-akm ∙ ap (thirdAkm call p) listed
 
-      pub third-ill : thirdOf (call .body) (akm .mic) ≡ Third.Ill → thirdFrame call status (some p) ≡ gone Answer.ThirdRefused
+      pub third-ill : thirdOf (call .body) (akm .mic) ≡ Third.Ill → thirdFrame call status (some p) ≡ lost Answer.ThirdRefused
       third-ill h = by-mic ∙ ap (thirdMic call p) h
 
       pub third-unlike : {part : Part} → thirdOf (call .body) (akm .mic) ≡ Third.Mic part → sameOctets (content (call .body) part) (call .mic) ≡ false
-          → thirdFrame call status (some p) ≡ gone Answer.ThirdRefused
+          → thirdFrame call status (some p) ≡ lost Answer.ThirdRefused
       third-unlike h k = by-mic ∙ ap (thirdMic call p) h ∙ rw k
 
       pub third-alike : {part : Part} → thirdOf (call .body) (akm .mic) ≡ Third.Mic part → sameOctets (content (call .body) part) (call .mic) ≡ true
-          → thirdFrame call status (some p) ≡ record { answer = Answer.Installed; reply = []; peer = some (installedPeer (call .reading) p) }
+          → thirdFrame call status (some p) ≡ record { answer = Answer.Installed; reply = []; leaves = becomes (installedPeer (call .reading) p) }
       third-alike h k = by-mic ∙ ap (thirdMic call p) h ∙ rw k

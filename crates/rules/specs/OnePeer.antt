@@ -97,24 +97,35 @@ statusOf Answer.NoExchange = none
 statusOf Answer.ThirdRefused = none
 statusOf Answer.Installed = none
 
--- What a call comes to: the answer, the octets written into the reply buffer, and this peer's record afterwards.
+-- what a call leaves of this peer's record: the same, none, or another
+pub data Left : Type 0 where
+  same gone : Left
+  becomes : Peer → Left
+
+-- What a call comes to: the answer, the octets written into the reply buffer, and what it leaves of this peer's record.
 pub record Outcome : Type 0 where
   pub answer : Answer
   pub reply : List ℕ
-  pub peer : Option Peer
+  pub leaves : Left
 
 -- records and reply buffer unchanged
-abbrev pub same : Answer → Option Peer → Outcome
-same answer own = record { answer = answer; reply = []; peer = own }
+abbrev pub unchanged : Answer → Outcome
+unchanged answer = record { answer = answer; reply = []; leaves = same }
 
 -- a waiting record goes; an installed one stays
-abbrev pub kept : Peer → Phase → Option Peer
-kept p (Waiting deadline) = none
-kept p (Installed end) = some p
+abbrev pub waitingGoes : Phase → Left
+waitingGoes (Waiting deadline) = gone
+waitingGoes (Installed end) = same
 
-abbrev pub withoutWaiting : Option Peer → Option Peer
-withoutWaiting none = none
-withoutWaiting (some p) = kept p (p .phase)
+abbrev pub withoutWaiting : Option Peer → Left
+withoutWaiting none = same
+withoutWaiting (some p) = waitingGoes (p .phase)
+
+-- this peer's record afterwards
+abbrev pub peerAfter : Option Peer → Left → Option Peer
+peerAfter own same = own
+peerAfter own gone = none
+peerAfter own (becomes p) = some p
 
 -- The first frame, in order -------------------------------------------------------------------------------------------------------------
 
@@ -294,28 +305,28 @@ abbrev pub refusal : ℕ → ℕ → Option Peer → Outcome
 refusal algorithm status own = record {
   answer = Answer.Refused status;
   reply = headerOctets algorithm status;
-  peer = if eqb status 30 then own else withoutWaiting own;
+  leaves = if eqb status 30 then same else withoutWaiting own;
 }
 
 -- 0, or 6, which comes after every refusal and leaves all as it was
-abbrev pub acceptance : Call → ℕ → Option Peer → Passed → Outcome
-acceptance call algorithm own passed =
+abbrev pub acceptance : Call → ℕ → Passed → Outcome
+acceptance call algorithm passed =
     if isKeyOf (passed .group) (call .key)
     then record {
       answer = Answer.Accepted;
       reply = secondOctets (chosenOf algorithm passed) (passed .pmkid) (call .key);
-      peer = some (waitingPeer call passed);
+      leaves = becomes (waitingPeer call passed);
     }
-    else same Answer.OwnKey own
+    else unchanged Answer.OwnKey
 
 abbrev pub firstOutcome : Call → ℕ → Option Peer → Step Passed → Outcome
 firstOutcome call algorithm own (refuse status) = refusal algorithm status own
-firstOutcome call algorithm own (pass passed) = acceptance call algorithm own passed
+firstOutcome call algorithm own (pass passed) = acceptance call algorithm passed
 
 -- with no record, or a waiting one; an installed peer is answered 10
 abbrev pub firstOn : Call → ℕ → Bool → Option Peer → Phase → Outcome
 firstOn call algorithm full own (Waiting deadline) = firstOutcome call algorithm own (steps call full)
-firstOn call algorithm full own (Installed end) = same Answer.PeerInstalled own
+firstOn call algorithm full own (Installed end) = unchanged Answer.PeerInstalled
 
 abbrev pub firstFrame : Call → ℕ → Bool → Option Peer → Outcome
 firstFrame call algorithm full none = firstOutcome call algorithm none (steps call full)
@@ -338,24 +349,24 @@ installedPeer reading p = record {
 abbrev pub thirdMic : Call → Peer → Third → Outcome
 thirdMic call p (Third.Mic part) =
     if sameOctets (content (call .body) part) (call .mic)
-    then record { answer = Answer.Installed; reply = []; peer = some (installedPeer (call .reading) p) }
-    else record { answer = Answer.ThirdRefused; reply = []; peer = none }
-thirdMic call p Third.Ill = record { answer = Answer.ThirdRefused; reply = []; peer = none }
+    then record { answer = Answer.Installed; reply = []; leaves = becomes (installedPeer (call .reading) p) }
+    else record { answer = Answer.ThirdRefused; reply = []; leaves = gone }
+thirdMic call p Third.Ill = record { answer = Answer.ThirdRefused; reply = []; leaves = gone }
 
 -- the MIC's length follows the record's AKM
 abbrev pub thirdAkm : Call → Peer → AkmEntry → Outcome
 thirdAkm call p (AkmEntry.In akm) = thirdMic call p (thirdOf (call .body) (akm .mic))
-thirdAkm call p AkmEntry.NotInTable = record { answer = Answer.ThirdRefused; reply = []; peer = none }
+thirdAkm call p AkmEntry.NotInTable = record { answer = Answer.ThirdRefused; reply = []; leaves = gone }
 
 abbrev pub thirdOn : Call → ℕ → Peer → Phase → Outcome
 thirdOn call status p (Waiting deadline) =
     if eqb status 0 then thirdAkm call p (akmOf (p .akm))
-    else record { answer = Answer.StatusNotZero; reply = []; peer = none }
-thirdOn call status p (Installed end) = same Answer.NoExchange (some p)
+    else record { answer = Answer.StatusNotZero; reply = []; leaves = gone }
+thirdOn call status p (Installed end) = unchanged Answer.NoExchange
 
 -- A peer with no live record is answered 13, and so is an installed one.
 abbrev pub thirdFrame : Call → ℕ → Option Peer → Outcome
-thirdFrame call status none = same Answer.NoExchange none
+thirdFrame call status none = unchanged Answer.NoExchange
 thirdFrame call status (some p) = thirdOn call status p (p .phase)
 
 -- Receive, in the order of its checks ---------------------------------------------------------------------------------------------------
@@ -373,24 +384,24 @@ isGroupAddress address = eqb (getD address 0 0 % 2) 1
 
 abbrev pub byTransaction : Call → Header → Bool → Option Peer → Outcome
 byTransaction call header full own =
-    if not (eqb (header .algorithm) 7) then record { answer = Answer.Algorithm; reply = []; peer = withoutWaiting own }
+    if not (eqb (header .algorithm) 7) then record { answer = Answer.Algorithm; reply = []; leaves = withoutWaiting own }
     else if eqb (header .transaction) 1 then firstFrame call (header .algorithm) full own
     else if eqb (header .transaction) 3 then thirdFrame call (header .status) own
-    else same Answer.Transaction own
+    else unchanged Answer.Transaction
 
 abbrev pub onBody : Call → Opened → Bool → Option Peer → Outcome
 onBody call (Opened.Body header) full own = byTransaction call header full own
-onBody call Opened.NoBody full own = same Answer.BodyLength own
+onBody call Opened.NoBody full own = unchanged Answer.BodyLength
 
 -- what a receive gets: `latest` is the latest reading, `own` this peer's live record, `full` whether there is none and sixteen others are live
 unfoldable pub receiveOf : Tu → Bool → Option Peer → Call → Outcome
 unfolding steps
 receiveOf latest full own call =
-    if not (clockFits latest (call .reading)) then same Answer.ClockOut own
-    else if ltb (call .room) 148 then same Answer.BufferShort own
-    else if not (settingsFit (call .settings)) then same Answer.SettingsOut own
-    else if isGroupAddress (call .address) then same Answer.GroupAddress own
-    else if not (isWellFormed (call .cache)) then same Answer.CacheIll own
+    if not (clockFits latest (call .reading)) then unchanged Answer.ClockOut
+    else if ltb (call .room) 148 then unchanged Answer.BufferShort
+    else if not (settingsFit (call .settings)) then unchanged Answer.SettingsOut
+    else if isGroupAddress (call .address) then unchanged Answer.GroupAddress
+    else if not (isWellFormed (call .cache)) then unchanged Answer.CacheIll
     else onBody call (bodyOf (call .body)) full own
 
 -- Removal and look-up of one peer -------------------------------------------------------------------------------------------------------

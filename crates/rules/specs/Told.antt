@@ -28,7 +28,7 @@ use Rattle.rules.specs.declared.first.Decision.{Decision}
 use Rattle.rules.specs.declared.first.KeySteps.{KeySteps}
 use Rattle.rules.specs.declared.first.PmkidStep.{PmkidStep}
 use Rattle.rules.specs.declared.first.SuiteSteps.{SuiteSteps}
-use Rattle.rules.specs.OnePeer.{Call, Outcome, same, withoutWaiting, after, steps, firstOutcome, Step, refuse, pass, _>>=_, Suites, Passed, keySteps, step10, step11, lifetimeOf}
+use Rattle.rules.specs.OnePeer.{Call, Left, same, gone, becomes, Outcome, unchanged, withoutWaiting, after, steps, firstOutcome, Step, refuse, pass, _>>=_, Suites, Passed, keySteps, step10, step11, lifetimeOf}
 
 abbrev pub cipherTold : CipherStep → Step ℕ
 cipherTold (CipherStep.Chosen kind) = pass kind
@@ -94,16 +94,16 @@ callOf brought file body = record {
 }
 
 -- what a verdict leaves of this peer's record
-abbrev pub recordAfter : Option Peer → Leaves → Peer → Option Peer
-recordAfter own Leaves.Same peer = own
-recordAfter own Leaves.WaitingGoes peer = withoutWaiting own
-recordAfter own Leaves.Becomes peer = some peer
+abbrev pub leftOf : Option Peer → Leaves → Peer → Left
+leftOf own Leaves.Same peer = same
+leftOf own Leaves.WaitingGoes peer = withoutWaiting own
+leftOf own Leaves.Becomes peer = becomes peer
 
 -- a verdict is an outcome, and its reply stands in the buffer
 pub record Gets (outcome : Outcome) (own : Option Peer) (before after : List ℕ) (r : Verdict) : Type 0 where
   pub answer : r .answer ≡ outcome .answer
   pub wrote : Wrote (outcome .reply) (r .length) before after
-  pub leaves : recordAfter own (r .leaves) (r .peer) ≡ outcome .peer
+  pub leaves : leftOf own (r .leaves) (r .peer) ≡ outcome .leaves
 
 -- the reading is a clock's, and the deadline one of the settings'
 pub record ClockFits (brought : Brought) : Type 0 where
@@ -129,15 +129,15 @@ pub record Writable (d : Decided) (pmkids : ℕ) (key : List ℕ) (n : ℕ) : Ty
   pub room : 148 ≤ n
 
 -- what was decided, with the PMKIDs that are written and the one that is kept
-abbrev pub acceptedOf : Brought → Decided → List ℕ → List ℕ → ℕ → List ℕ → Option Peer → Outcome
-acceptedOf brought d pmkid pmkids algorithm key own =
+abbrev pub acceptedOf : Brought → Decided → List ℕ → List ℕ → ℕ → List ℕ → Outcome
+acceptedOf brought d pmkid pmkids algorithm key =
     if isKeyOf (d .group) key
     then record {
       answer = Answer.Accepted;
       reply = secondOctets (record { algorithm = algorithm; cipher = d .cipher; akm = d .akm .kind; lifetime = d .lifetime; group = d .group .number; mic = d .akm .mic }) pmkids key;
-      peer = some (waitingOf brought d pmkid);
+      leaves = becomes (waitingOf brought d pmkid);
     }
-    else same Answer.OwnKey own
+    else unchanged Answer.OwnKey
 
 -- what was checked before a first frame is looked at
 pub record Ready (brought : Brought) (file : List ℕ) (n : ℕ) : Type 0 where
@@ -171,7 +171,7 @@ pub record Decides (outcome : Outcome) (own : Option Peer) (r : Verdict) : Type 
   pub answer : r .answer ≡ outcome .answer
   pub silent : outcome .reply ≡ []
   pub told : r .length ≡ 0
-  pub leaves : recordAfter own (r .leaves) (r .peer) ≡ outcome .peer
+  pub leaves : leftOf own (r .leaves) (r .peer) ≡ outcome .leaves
 
 -- a third frame's call: what else a receive brings is not looked at
 abbrev pub thirdCall : Tu → List ℕ → List ℕ → Call

@@ -407,7 +407,7 @@ fn accept(
     reply: &mut [u8],
 ) -> Verdict
     requires { ⌜ ClockFits brought × Writable decided (length (now pmkids)) (now key) (length (now reply)) ⌝ }
-    ensures { λ r. ⌜ ((own : Option Peer) → Gets (acceptedOf brought decided pmkid (now (pmkids .entry)) algorithm (now (key .entry)) own) own (now (reply .entry)) (now (reply .exit)) r) ⌝ }
+    ensures { λ r. ⌜ ((own : Option Peer) → Gets (acceptedOf brought decided pmkid (now (pmkids .entry)) algorithm (now (key .entry))) own (now (reply .entry)) (now (reply .exit)) r) ⌝ }
 {
     let group = decided.group;
     if !suites::is_key_of(group, key) {

@@ -1,5 +1,5 @@
+use Rattle.rules.specs.OnePeer.{becomes}
 use mathlib.Core.Path.{refl, sym, ap, _∙_}
-use mathlib.Core.Option.{some}
 use native.Mathlib.Omega.{arith}
 use borrow.Author.Tests.{not-true, not-false}
 use Rattle.octets.proofs.Parts.{wrote-none}
@@ -36,7 +36,7 @@ returns-2 c =
     let p = c .before .before .before in
     let q = p .before .before .before .before in
     let r = q .before in
-    λ own. rw (sym (r .is-key-of .ensures) ∙ not-false _ (q .if1 .left)) (record { answer = refl; wrote = p .put .ensures; leaves = ap some (c .waiting .ensures) })
+    λ own. rw (sym (r .is-key-of .ensures) ∙ not-false _ (q .if1 .left)) (record { answer = refl; wrote = p .put .ensures; leaves = ap becomes (c .waiting .ensures) })
 
 pub accept-spec : {M : Type 1} → statement M
 accept-spec =

@@ -1,3 +1,4 @@
+use Rattle.rules.specs.OnePeer.{becomes}
 use Rattle.rules.specs.Told.{thirdCall}
 use Rattle.rules.proofs.Verdicts.{decides-same, stays, goes, third-installed, third-status, third-unlisted, third-ill, third-unlike, third-alike}
 use mathlib.Core.Path.{refl, sym, ap, _∙_}
@@ -110,7 +111,7 @@ returns-5 c =
     let v = u .before in
     let w = v .before in
     let x = w .before .before .before .before in
-    decides-same (sym (third-alike (thirdCall (x .args .reading) (x .args .mic .now) (x .args .body .now)) (x .args .status) (x .args .peer) (w .enum-told .given .1) (v .if1 .left) (sym (u .akm-of .ensures) ∙ s .entry .given .1) (sym (r .read .ensures) ∙ q .third .given .1) (sym (p .same .ensures) ∙ c .before .if2 .taken))) (record { answer = refl; silent = refl; told = refl; leaves = ap some (c .installed .ensures) })
+    decides-same (sym (third-alike (thirdCall (x .args .reading) (x .args .mic .now) (x .args .body .now)) (x .args .status) (x .args .peer) (w .enum-told .given .1) (v .if1 .left) (sym (u .akm-of .ensures) ∙ s .entry .given .1) (sym (r .read .ensures) ∙ q .third .given .1) (sym (p .same .ensures) ∙ c .before .if2 .taken))) (record { answer = refl; silent = refl; told = refl; leaves = ap becomes (c .installed .ensures) })
 
 only-requires-5 : tie.Need-only-requires-5
 only-requires-5 c κs = search needs

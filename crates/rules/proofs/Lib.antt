@@ -4,3 +4,4 @@ pub mod Steps
 pub mod Passing
 pub mod Accepting
 pub mod Verdicts
+pub mod Cases

@@ -2,6 +2,7 @@
 pub mod first;
 pub mod third;
 
+ghost use Rattle.rules.specs.Told.{Only};
 use peers::Peer;
 use units::Seconds;
 use units::Tu;
@@ -55,4 +56,16 @@ pub struct Verdict {
     pub length: usize,
     pub leaves: Leaves,
     pub peer: Peer,
+}
+
+// A verdict that writes nothing and makes no record.
+pub fn only(answer: Answer, leaves: Leaves) -> Verdict
+    ensures { λ r. ⌜ Only answer leaves r ⌝ }
+{
+    Verdict {
+        answer: answer,
+        length: 0,
+        leaves: leaves,
+        peer: peers::vacant(),
+    }
 }

@@ -4,7 +4,7 @@ ghost use mathlib.Core.Bool.{true};
 ghost use mathlib.Core.Option.{some};
 ghost use Rattle.units.specs.Units.{inClock};
 ghost use Rattle.rules.specs.OnePeer.{installedPeer, thirdFrame};
-ghost use Rattle.rules.specs.Told.{Only, Decides, thirdCall};
+ghost use Rattle.rules.specs.Told.{Decides, thirdCall};
 use crate::Answer;
 use crate::Leaves;
 use crate::Verdict;
@@ -13,18 +13,6 @@ use peers::Peer;
 use peers::Phase;
 use suites::AkmEntry;
 use units::Tu;
-
-// A verdict that writes nothing and makes no record.
-fn only(answer: Answer, leaves: Leaves) -> Verdict
-    ensures { λ r. ⌜ Only answer leaves r ⌝ }
-{
-    Verdict {
-        answer: answer,
-        length: 0,
-        leaves: leaves,
-        peer: peers::vacant(),
-    }
-}
 
 fn installed(peer: Peer, reading: Tu) -> Peer
     requires { ⌜ inClock reading ≡ true ⌝ }
@@ -46,18 +34,18 @@ pub fn answer(peer: Peer, reading: Tu, mic: &[u8], body: &[u8], status: u16) -> 
 {
     let phase = peer.phase;
     let Phase::Waiting(_) = phase else {
-        return only(Answer::NoExchange, Leaves::Same);
+        return crate::only(Answer::NoExchange, Leaves::Same);
     };
     if status != 0 {
-        return only(Answer::StatusNotZero, Leaves::WaitingGoes);
+        return crate::only(Answer::StatusNotZero, Leaves::WaitingGoes);
     }
     let entry = suites::akm_of(peer.akm);
     let AkmEntry::In(akm) = entry else {
-        return only(Answer::ThirdRefused, Leaves::WaitingGoes);
+        return crate::only(Answer::ThirdRefused, Leaves::WaitingGoes);
     };
     let third = frames::third::read(body, akm.mic);
     let Third::Mic(part) = third else {
-        return only(Answer::ThirdRefused, Leaves::WaitingGoes);
+        return crate::only(Answer::ThirdRefused, Leaves::WaitingGoes);
     };
     let start = part.start;
     let end = part.end;
@@ -69,5 +57,5 @@ pub fn answer(peer: Peer, reading: Tu, mic: &[u8], body: &[u8], status: u16) -> 
             peer: installed(peer, reading),
         };
     }
-    only(Answer::ThirdRefused, Leaves::WaitingGoes)
+    crate::only(Answer::ThirdRefused, Leaves::WaitingGoes)
 }

@@ -1,0 +1,83 @@
+-- What is shown once a verdict is settled.
+use mathlib.Core.Path.{_≡_, refl, sym, ap, subst, _∙_}
+use mathlib.Core.Bool.{Bool, true, false, false≢true, true≢false}
+use mathlib.Core.List.{List, _∷_}
+use mathlib.Core.Option.{Option, none, some}
+use Prim.Native.Nat.{ℕ, _+_, _≤_}
+use Rattle.octets.specs.Choice.{if_then_else_}
+use Rattle.octets.specs.Equality.{sameOctets}
+use Rattle.units.specs.declared.Tu.{Tu}
+use Rattle.peers.specs.declared.Peer.{Peer}
+use Rattle.peers.specs.declared.Phase.{Phase}
+use Rattle.peers.specs.declared.Phase.the-variants.{Waiting, Installed}
+use Rattle.peers.specs.declared.Table.{Table}
+use Rattle.peers.specs.Promises.{whileLive, Puts, Drops}
+use Rattle.peers.specs.View.{other, shows, others, full}
+use Rattle.rules.specs.declared.Leaves.{Leaves}
+use Rattle.rules.specs.OnePeer.{Left, same, gone, becomes, waitingGoes, withoutWaiting}
+use Rattle.rules.specs.Told.{leftOf}
+use Rattle.platform.specs.Promises.{Settles, isWaiting, waits}
+
+-- a table at another latest reading shows the same
+abbrev pub dated : Table → Tu → Table
+dated t n = record { peers = t .peers; latest = n }
+
+either : {A : Type 0} (b : Bool) (x : A) → x ≡ (if b then x else x)
+either true x = refl
+either false x = refl
+
+module _ (t : Table) (a : List ℕ) (n : Tu) where
+  pub settles-same : Settles t a n same (dated t n)
+  unfolding shows others
+  settles-same = record { shown = λ m h b. either (sameOctets a b) (shows t m b); counted = λ m h these. refl }
+
+  -- a table that stays
+  pub settles-none : Settles t a n same t
+  settles-none = record { shown = λ m h b. either (sameOctets a b) (shows t m b); counted = λ m h these. refl }
+
+  pub settles-gone : {r : Table} → Drops (dated t n) a r → Settles t a n gone r
+  unfolding shows others
+  settles-gone d = record { shown = λ m h b. d .shown m b; counted = λ m h these. d .counted m these }
+
+  pub settles-becomes : {r : Table} (p : Peer) → p .address ≡ a → full t n a ≡ false → Puts (dated t n) p n r → Settles t a n (becomes p) r
+  unfolding shows others full
+  settles-becomes {r} p e f u =
+      let g : full t n (p .address) ≡ false = ap (full t n) e ∙ f in
+      record {
+        shown = λ m h b. u .shown g m h b ∙ ap (λ (l : List ℕ). if sameOctets l b then whileLive p m else shows t m b) e;
+        counted = λ m h these. u .counted g m h these ∙ ap (λ (l : List ℕ). others t m (l ∷ these) + (if other m these p then 1 else 0)) e;
+      }
+
+  -- the same, by what the verdict says
+  pub settles-by : {r : Table} {l l' : Left} → Settles t a n l r → l ≡ l' → Settles t a n l' r
+  settles-by {r} s e = subst (λ (l : Left). Settles t a n l r) e s
+
+module _ (own : Option Peer) (peer : Peer) {leaves : Leaves} where
+  pub left-same : leaves ≡ Leaves.Same → same ≡ leftOf own leaves peer
+  left-same e = sym (ap (λ (l : Leaves). leftOf own l peer) e)
+
+  pub left-becomes : leaves ≡ Leaves.Becomes → becomes peer ≡ leftOf own leaves peer
+  left-becomes e = sym (ap (λ (l : Leaves). leftOf own l peer) e)
+
+gone-waiting : (phase : Phase) → isWaiting phase ≡ true → gone ≡ waitingGoes phase
+gone-waiting (Waiting deadline) h = refl
+gone-waiting (Installed end) h = absurd (false≢true h)
+
+kept-installed : (phase : Phase) → isWaiting phase ≡ false → same ≡ waitingGoes phase
+kept-installed (Waiting deadline) h = absurd (true≢false h)
+kept-installed (Installed end) h = refl
+
+gone-without : (own : Option Peer) → waits own ≡ true → gone ≡ withoutWaiting own
+gone-without none h = absurd (false≢true h)
+gone-without (some p) h = gone-waiting (p .phase) h
+
+kept-without : (own : Option Peer) → waits own ≡ false → same ≡ withoutWaiting own
+kept-without none h = refl
+kept-without (some p) h = kept-installed (p .phase) h
+
+module _ (own : Option Peer) (peer : Peer) {leaves : Leaves} (e : leaves ≡ Leaves.WaitingGoes) where
+  pub left-gone : waits own ≡ true → gone ≡ leftOf own leaves peer
+  left-gone w = gone-without own w ∙ sym (ap (λ (l : Leaves). leftOf own l peer) e)
+
+  pub left-kept : waits own ≡ false → same ≡ leftOf own leaves peer
+  left-kept w = kept-without own w ∙ sym (ap (λ (l : Leaves). leftOf own l peer) e)

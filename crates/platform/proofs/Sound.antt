@@ -1,0 +1,105 @@
+-- A body's outcome is none of the answers 1 to 5, and a record that it makes is of this address and has a place.
+use mathlib.Core.Path.{_≡_, refl}
+use mathlib.Core.Bool.{Bool, true, false, not}
+use mathlib.Core.Option.{Option, none, some}
+use Prim.Native.Nat.{ℕ}
+use lib.Dec.{eqb}
+use Rattle.octets.specs.Choice.{if_then_else_}
+use Rattle.octets.specs.Equality.{sameOctets}
+use Rattle.units.specs.declared.Tu.{Tu}
+use Rattle.elements.specs.declared.Opened.{Opened}
+use Rattle.suites.specs.declared.AkmEntry.{AkmEntry}
+use Rattle.suites.specs.Tables.{akmOf, isKeyOf}
+use Rattle.frames.specs.declared.third.Third.{Third}
+use Rattle.frames.specs.Contents.{content}
+use Rattle.frames.specs.Third.{thirdOf}
+use Rattle.peers.specs.declared.Peer.{Peer}
+use Rattle.peers.specs.declared.Phase.{Phase}
+use Rattle.peers.specs.declared.Phase.the-variants.{Waiting, Installed}
+use Rattle.peers.specs.declared.Table.{Table}
+use Rattle.peers.specs.View.{shows, full}
+use Rattle.peers.proofs.Laws.{shown-is, full-shown}
+use Rattle.rules.specs.OnePeer.{Call, same, Outcome, waitingGoes, withoutWaiting, Step, refuse, pass, _>>=_, step1, step10, step11, suiteSteps, keySteps, Passed, steps, firstOutcome, firstOn, firstFrame, thirdMic, thirdAkm, thirdOn, thirdFrame, onBody}
+use Rattle.platform.specs.Promises.{Seats, isEarly}
+
+-- who passes the eleventh step has room
+abbrev Roomy : Bool → Step Passed → Type 0
+Roomy full (refuse status) = Unit {0}
+Roomy full (pass passed) = full ≡ false
+
+roomy-then : (full : Bool) {A : Type 0} (s : Step A) (f : A → Step Passed) → ((x : A) → Roomy full (f x)) → Roomy full (s >>= f)
+roomy-then full (refuse status) f h = tt
+roomy-then full (pass x) f h = h x
+
+roomy-last : (full : Bool) (passed : Passed) → Roomy full (step11 full >>= (λ _. pass passed))
+roomy-last true passed = tt
+roomy-last false passed = refl
+
+roomy : (call : Call) (full : Bool) → Roomy full (steps call full)
+unfolding steps
+roomy call full =
+    roomy-then full (step1 (call .body)) _ (λ facts.
+    roomy-then full (suiteSteps (call .settings) (facts .format) (facts .rsne)) _ (λ suites.
+    roomy-then full (keySteps (facts .group) (content (call .body) (facts .key)) (call .point)) _ (λ group.
+    roomy-then full (step10 (suites .akm) (call .cache) (call .reading) (content (call .body) (facts .rsne .pmkids))) _ (λ pmkid.
+    roomy-last full _))))
+
+module _ (t : Table) (n : Tu) (call : Call) where
+  pub record Sound (o : Outcome) : Type 0 where
+    pub seats : Seats t (call .address) n (o .leaves)
+    pub late : isEarly (o .answer) ≡ false
+
+  either : (b : Bool) {o p : Outcome} → Sound o → Sound p → Sound (if b then o else p)
+  either true s u = s
+  either false s u = u
+
+  by-phase : (phase : Phase) → Seats t (call .address) n (waitingGoes phase)
+  by-phase (Waiting deadline) = tt
+  by-phase (Installed end) = tt
+
+  without : (own : Option Peer) → Seats t (call .address) n (withoutWaiting own)
+  without none = tt
+  without (some p) = by-phase (p .phase)
+
+  refused : (full : Bool) (own : Option Peer) → Seats t (call .address) n (if full then same else withoutWaiting own)
+  refused true own = tt
+  refused false own = without own
+
+  first-sound : (algorithm : ℕ) (own : Option Peer) (s : Step Passed) → Roomy (full t n (call .address)) s → Sound (firstOutcome call algorithm own s)
+  first-sound algorithm own (refuse status) h = record { seats = refused (eqb status 30) own; late = refl }
+  first-sound algorithm own (pass passed) h =
+      either (isKeyOf (passed .group) (call .key)) (record { seats = (refl, h); late = refl }) (record { seats = tt; late = refl })
+
+  first-on : (algorithm : ℕ) (own : Option Peer) (phase : Phase) → Sound (firstOn call algorithm (full t n (call .address)) own phase)
+  first-on algorithm own (Waiting deadline) = first-sound algorithm own (steps call (full t n (call .address))) (roomy call (full t n (call .address)))
+  first-on algorithm own (Installed end) = record { seats = tt; late = refl }
+
+  first : (algorithm : ℕ) (own : Option Peer) → Sound (firstFrame call algorithm (full t n (call .address)) own)
+  first algorithm none = first-sound algorithm none (steps call (full t n (call .address))) (roomy call (full t n (call .address)))
+  first algorithm (some p) = first-on algorithm (some p) (p .phase)
+
+  module _ (p : Peer) (own : p .address ≡ call .address) (room : full t n (call .address) ≡ false) where
+    by-mic : (third : Third) → Sound (thirdMic call p third)
+    by-mic (Third.Mic part) =
+        either (sameOctets (content (call .body) part) (call .mic)) (record { seats = (own, room); late = refl }) (record { seats = tt; late = refl })
+    by-mic Third.Ill = record { seats = tt; late = refl }
+
+    by-akm : (entry : AkmEntry) → Sound (thirdAkm call p entry)
+    by-akm (AkmEntry.In akm) = by-mic (thirdOf (call .body) (akm .mic))
+    by-akm AkmEntry.NotInTable = record { seats = tt; late = refl }
+
+    third-on : (status : ℕ) (phase : Phase) → Sound (thirdOn call status p phase)
+    third-on status (Waiting deadline) = either (eqb status 0) (by-akm (akmOf (p .akm))) (record { seats = tt; late = refl })
+    third-on status (Installed end) = record { seats = tt; late = refl }
+
+  third : (status : ℕ) (own : Option Peer) → shows t n (call .address) ≡ own → Sound (thirdFrame call status own)
+  third status none e = record { seats = tt; late = refl }
+  third status (some p) e =
+      third-on p (shown-is t n (call .address) e .address) (full-shown t n (call .address) e) status (p .phase)
+
+  pub sound : (opened : Opened) → Sound (onBody call opened (full t n (call .address)) (shows t n (call .address)))
+  sound (Opened.Body header) =
+      either (not (eqb (header .algorithm) 7)) (record { seats = without (shows t n (call .address)); late = refl })
+      (either (eqb (header .transaction) 1) (first (header .algorithm) (shows t n (call .address)))
+      (either (eqb (header .transaction) 3) (third (header .status) (shows t n (call .address)) refl) (record { seats = tt; late = refl })))
+  sound Opened.NoBody = record { seats = tt; late = refl }

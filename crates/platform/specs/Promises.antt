@@ -1,0 +1,168 @@
+-- What the unit's operations promise, by what the tables show.
+use Prim.Native.Nat.{ℕ, _+_, _≤_}
+use mathlib.Core.Path.{_≡_}
+use mathlib.Core.Bool.{Bool, true, false, not}
+use mathlib.Core.List.{List, [], _∷_}
+use mathlib.Core.Option.{Option, none, some}
+use lib.Dec.{ltb, leb}
+use lib.ListN.{length}
+use Rattle.octets.specs.Choice.{if_then_else_}
+use Rattle.octets.specs.Equality.{sameOctets}
+use Rattle.octets.specs.Wrote.{Wrote}
+use Rattle.units.specs.declared.Tu.{Tu}
+use Rattle.elements.specs.Body.{bodyOf}
+use Rattle.cache.specs.File.{isWellFormed}
+use Rattle.peers.specs.declared.Peer.{Peer}
+use Rattle.peers.specs.declared.Phase.{Phase}
+use Rattle.peers.specs.declared.Phase.the-variants.{Waiting, Installed}
+use Rattle.peers.specs.declared.Table.{Table}
+use Rattle.peers.specs.View.{live, other, shows, others, full, vacantPeer}
+use Rattle.peers.specs.Promises.{whileLive}
+use Rattle.rules.specs.declared.Answer.{Answer}
+use Rattle.rules.specs.declared.Brought.{Brought}
+use Rattle.rules.specs.declared.Verdict.{Verdict}
+use Rattle.rules.specs.OnePeer.{Call, Left, same, gone, becomes, Outcome, numberOf, clockFits, settingsFit, isGroupAddress, firstFrame, thirdFrame, onBody, receiveOf, removeOf, lookUpOf}
+use Rattle.rules.specs.Told.{leftOf, Gets, Decides, thirdCall}
+use Rattle.platform.specs.declared.Checked.{Checked}
+use Rattle.platform.specs.declared.Received.{Received}
+use Rattle.platform.specs.declared.Removal.{Removal}
+use Rattle.platform.specs.declared.Removed.{Removed}
+use Rattle.platform.specs.declared.LookUp.{LookUp}
+use Rattle.platform.specs.declared.LookedUp.{LookedUp}
+
+-- the checks 1 to 5
+unfoldable pub checkedOf : Tu → Brought → List ℕ → ℕ → Checked
+checkedOf latest brought file room =
+    if not (clockFits latest (brought .reading)) then Checked.Failed Answer.ClockOut
+    else if ltb room 148 then Checked.Failed Answer.BufferShort
+    else if not (settingsFit (brought .settings)) then Checked.Failed Answer.SettingsOut
+    else if isGroupAddress (brought .address) then Checked.Failed Answer.GroupAddress
+    else if not (isWellFormed file) then Checked.Failed Answer.CacheIll
+    else Checked.Passed
+
+-- what is shown of this peer afterwards, by what was shown and what the call leaves
+abbrev pub shownAfter : Option Peer → Tu → Left → Option Peer
+shownAfter before m same = before
+shownAfter before m gone = none
+shownAfter before m (becomes p) = whileLive p m
+
+-- how many live records of addresses other than these there are afterwards
+abbrev pub countedAfter : Table → List ℕ → Tu → List (List ℕ) → Left → ℕ
+countedAfter t address m these same = others t m these
+countedAfter t address m these gone = others t m (address ∷ these)
+countedAfter t address m these (becomes p) = others t m (address ∷ these) + (if other m these p then 1 else 0)
+
+-- From a reading on, this address shows what the call leaves, and every other address what it showed.
+pub record Settles (t : Table) (address : List ℕ) (n : Tu) (left : Left) (r : Table) : Type 0 where
+  pub shown : (m : Tu) → n .0 ≤ m .0 → (b : List ℕ)
+      → shows r m b ≡ (if sameOctets address b then shownAfter (shows t m b) m left else shows t m b)
+  pub counted : (m : Tu) → n .0 ≤ m .0 → (these : List (List ℕ)) → others r m these ≡ countedAfter t address m these left
+
+-- the record that a call makes is of this address, and has a place
+abbrev pub Seats : Table → List ℕ → Tu → Left → Type 0
+Seats t address n same = Unit {0}
+Seats t address n gone = Unit {0}
+Seats t address n (becomes p) = (p .address ≡ address) × (full t n address ≡ false)
+
+-- what a verdict leaves of this address's record
+abbrev pub leftBy : Table → List ℕ → Tu → Verdict → Left
+leftBy t address n v = leftOf (shows t n address) (v .leaves) (v .peer)
+
+-- whether a record is a waiting one
+abbrev pub isWaiting : Phase → Bool
+isWaiting (Waiting deadline) = true
+isWaiting (Installed end) = false
+
+abbrev pub waits : Option Peer → Bool
+waits none = false
+waits (some p) = isWaiting (p .phase)
+
+-- what a receive brings, as one call
+abbrev pub callOf : Brought → List ℕ → List ℕ → List ℕ → List ℕ → ℕ → Call
+callOf brought cache key mic body room = record {
+  settings = brought .settings;
+  cache = cache;
+  reading = brought .reading;
+  address = brought .address;
+  point = brought .point;
+  key = key;
+  mic = mic;
+  body = body;
+  room = room;
+}
+
+-- what a first frame gets, whatever MIC is lent
+abbrev pub FirstGets : Table → Brought → List ℕ → List ℕ → List ℕ → ℕ → List ℕ → List ℕ → Verdict → Type 0
+FirstGets t brought file key body algorithm before after r = (mic : List ℕ) (room : ℕ)
+    → Gets (firstFrame (callOf brought file key mic body room) algorithm (full t (brought .reading) (brought .address)) (shows t (brought .reading) (brought .address)))
+    (shows t (brought .reading) (brought .address)) before after r
+
+abbrev pub ThirdGets : Table → List ℕ → Tu → List ℕ → List ℕ → ℕ → Verdict → Type 0
+ThirdGets t address n mic body status r = Decides (thirdFrame (thirdCall n mic body) status (shows t n address)) (shows t n address) r
+
+-- what a body gets, once the call is checked
+abbrev pub BodyGets : Table → Brought → List ℕ → List ℕ → List ℕ → List ℕ → List ℕ → List ℕ → Verdict → Type 0
+BodyGets t brought file key mic body before after r =
+    Gets (onBody (callOf brought file key mic body (length before)) (bodyOf body) (full t (brought .reading) (brought .address)) (shows t (brought .reading) (brought .address)))
+    (shows t (brought .reading) (brought .address)) before after r
+
+-- whether an answer is one of 1 to 5, which leave the table as it was
+abbrev pub isEarly : Answer → Bool
+isEarly answer = if leb 1 (numberOf answer) then leb (numberOf answer) 5 else false
+
+-- What a receive promises: the answer and the length told, each octet of the reply buffer, the latest reading, and what the table shows.
+pub record Answers (t : Table) (call : Call) (outcome : Outcome) (before after : List ℕ) (r : Received) : Type 0 where
+  pub answer : r .answer ≡ outcome .answer
+  pub reply : Wrote (outcome .reply) (r .length) before after
+  pub early : isEarly (outcome .answer) ≡ true → r .table ≡ t
+  pub latest : isEarly (outcome .answer) ≡ false → r .table .latest ≡ call .reading
+  pub settles : Settles t (call .address) (call .reading) (outcome .leaves) (r .table)
+
+-- A receive gets what the one-peer rules give, by what the table shows of this address.
+abbrev pub Receives : Table → Call → List ℕ → List ℕ → Received → Type 0
+Receives t call before after r =
+    Answers t call (receiveOf (t .latest) (full t (call .reading) (call .address)) (shows t (call .reading) (call .address)) call) before after r
+
+-- Removal and look-up -------------------------------------------------------------------------------------------------------------------
+
+abbrev pub removalNumber : Removal → ℕ
+removalNumber Removal.ClockOut = 1
+removalNumber Removal.GroupAddress = 4
+removalNumber Removal.NoRecord = 17
+removalNumber Removal.Removed = 16
+
+-- what a removal leaves of this address's record
+abbrev pub leftByRemoval : Removal → Left
+leftByRemoval Removal.ClockOut = same
+leftByRemoval Removal.GroupAddress = same
+leftByRemoval Removal.NoRecord = same
+leftByRemoval Removal.Removed = gone
+
+-- 1 and 4 leave the table as it was; 17 and 16 set the latest reading
+abbrev pub dateOf : Tu → Tu → Removal → Tu
+dateOf latest n Removal.ClockOut = latest
+dateOf latest n Removal.GroupAddress = latest
+dateOf latest n Removal.NoRecord = n
+dateOf latest n Removal.Removed = n
+
+pub record Removes (t : Table) (address : List ℕ) (n : Tu) (r : Removed) : Type 0 where
+  pub number : removalNumber (r .answer) ≡ removeOf (t .latest) n address (shows t n address)
+  pub latest : r .table .latest ≡ dateOf (t .latest) n (r .answer)
+  pub settles : Settles t address n (leftByRemoval (r .answer)) (r .table)
+
+abbrev pub lookNumber : LookUp → ℕ
+lookNumber LookUp.ClockOut = 1
+lookNumber LookUp.GroupAddress = 4
+lookNumber LookUp.NoRecord = 17
+lookNumber LookUp.Shown = 18
+
+-- the record beside 18 is the one that is shown; beside another answer there is none
+abbrev pub IsShown : Table → List ℕ → Tu → Peer → LookUp → Type 0
+IsShown t address n p LookUp.ClockOut = p ≡ vacantPeer
+IsShown t address n p LookUp.GroupAddress = p ≡ vacantPeer
+IsShown t address n p LookUp.NoRecord = p ≡ vacantPeer
+IsShown t address n p LookUp.Shown = shows t n address ≡ some p
+
+pub record LooksUp (t : Table) (address : List ℕ) (n : Tu) (r : LookedUp) : Type 0 where
+  pub number : lookNumber (r .answer) ≡ lookUpOf (t .latest) n address (shows t n address)
+  pub shown : IsShown t address n (r .peer) (r .answer)

@@ -1,0 +1,360 @@
+// The platform unit: sixteen records, and the operations that a host calls. None of them has a `requires`.
+ghost use mathlib.Core.Path.{_≡_};
+ghost use mathlib.Core.Bool.{true};
+ghost use lib.ListN.{length};
+ghost use Rattle.frames.specs.Contents.{content};
+ghost use Rattle.frames.specs.Bodies.{keyPart, zeroAnswer, zeroed, setAnswer, setOctets};
+ghost use Rattle.peers.specs.Promises.{Nobody};
+ghost use Rattle.peers.specs.View.{shows, vacantPeer};
+ghost use Rattle.rules.specs.OnePeer.{clockFits, settingsFit, isGroupAddress};
+ghost use Rattle.rules.specs.Told.{Ready};
+ghost use Rattle.units.specs.Units.{inClock};
+ghost use Rattle.platform.specs.Promises.{checkedOf, waits, Settles, Seats, leftBy, FirstGets, ThirdGets, BodyGets, callOf, Receives, Removes, LooksUp};
+use elements::Opened;
+use frames::bodies::MicAnswer;
+use frames::bodies::PASN;
+use peers::Found;
+use peers::Peer;
+use peers::Phase;
+use peers::Table;
+use rules::Answer;
+use rules::Brought;
+use rules::Leaves;
+use rules::Settings;
+use rules::Verdict;
+use units::Tu;
+
+// What a receive gives back: the table, the answer, and how many octets of the reply buffer are the reply.
+pub struct Received {
+    pub table: Table,
+    pub answer: Answer,
+    pub length: usize,
+}
+
+pub enum Removal {
+    ClockOut,
+    GroupAddress,
+    NoRecord,
+    Removed,
+}
+
+// What a removal gives back.
+pub struct Removed {
+    pub table: Table,
+    pub answer: Removal,
+}
+
+pub enum LookUp {
+    ClockOut,
+    GroupAddress,
+    NoRecord,
+    Shown,
+}
+
+// What a look-up gives back: `peer` is the record where it is `Shown`, and else a vacant one.
+pub struct LookedUp {
+    pub answer: LookUp,
+    pub peer: Peer,
+}
+
+const SMALLEST_BUFFER: usize = 148;
+
+// A unit that starts: no record, latest reading 0.
+pub fn empty() -> Table
+    ensures { λ r. ⌜ Nobody r ⌝ }
+{
+    peers::empty()
+}
+
+fn clock_fits(latest: Tu, reading: Tu) -> bool
+    ensures { λ r. ⌜ r ≡ clockFits latest reading ⌝ }
+{
+    if latest.0 <= reading.0 {
+        return units::in_clock(reading);
+    }
+    false
+}
+
+fn settings_fit(s: Settings) -> bool
+    ensures { λ r. ⌜ r ≡ settingsFit s ⌝ }
+{
+    let lifetime = s.lifetime;
+    let deadline = s.deadline;
+    if 0 < lifetime.0 {
+        if lifetime.0 <= 86400 {
+            if 0 < deadline.0 {
+                return deadline.0 <= 10000;
+            }
+        }
+    }
+    false
+}
+
+fn is_group_address(address: [u8; 6]) -> bool
+    ensures { λ r. ⌜ r ≡ isGroupAddress address ⌝ }
+{
+    address[0] % 2 == 1
+}
+
+enum Checked {
+    Passed,
+    Failed(Answer),
+}
+
+// The checks 1 to 5, before the frame is looked at.
+fn check_call(latest: Tu, brought: Brought, file: &[u8], room: usize) -> Checked
+    ensures { λ r. ⌜ r ≡ checkedOf latest brought (now (file .entry)) room ⌝ }
+{
+    let settings = brought.settings;
+    let address = brought.address;
+    let reading = brought.reading;
+    if !clock_fits(latest, reading) {
+        return Checked::Failed(Answer::ClockOut);
+    }
+    if room < SMALLEST_BUFFER {
+        return Checked::Failed(Answer::BufferShort);
+    }
+    if !settings_fit(settings) {
+        return Checked::Failed(Answer::SettingsOut);
+    }
+    if is_group_address(address) {
+        return Checked::Failed(Answer::GroupAddress);
+    }
+    if !cache::is_well_formed(file) {
+        return Checked::Failed(Answer::CacheIll);
+    }
+    Checked::Passed
+}
+
+fn is_waiting(t: Table, address: [u8; 6], reading: Tu) -> bool
+    ensures { λ r. ⌜ r ≡ waits (shows t reading address) ⌝ }
+{
+    let found = peers::find(t, address, reading);
+    let Found::At(i) = found else {
+        return false;
+    };
+    let peer = t.peers[i];
+    let phase = peer.phase;
+    match phase {
+        Phase::Waiting(_) => true,
+        Phase::Installed(_) => false,
+    }
+}
+
+// The table as a verdict leaves it, and the reading as its latest.
+fn settle(t: Table, address: [u8; 6], reading: Tu, verdict: Verdict) -> Table
+    requires { ⌜ Seats t address reading (leftBy t address reading verdict) ⌝ }
+    ensures { λ r. ⌜ Settles t address reading (leftBy t address reading verdict) r × (r .latest ≡ reading) ⌝ }
+{
+    let leaves = verdict.leaves;
+    let peer = verdict.peer;
+    let mut u = t;
+    u.latest = reading;
+    match leaves {
+        Leaves::Same => u,
+        Leaves::WaitingGoes => {
+            if is_waiting(t, address, reading) {
+                return peers::drop(u, address);
+            }
+            u
+        }
+        Leaves::Becomes => peers::put(u, peer, reading),
+    }
+}
+
+// A first frame: an installed peer's key is not displaced, and a record that is shown has its place already.
+fn on_first(
+    t: Table,
+    brought: Brought,
+    file: &[u8],
+    key: &[u8],
+    body: &[u8],
+    algorithm: u16,
+    reply: &mut [u8],
+) -> Verdict
+    requires { ⌜ Ready brought (now file) (length (now reply)) ⌝ }
+    ensures { λ r. ⌜ FirstGets t brought (now (file .entry)) (now (key .entry)) (now (body .entry)) algorithm (now (reply .entry)) (now (reply .exit)) r ⌝ }
+{
+    let address = brought.address;
+    let reading = brought.reading;
+    let found = peers::find(t, address, reading);
+    let Found::At(i) = found else {
+        let full = peers::is_full(t, address, reading);
+        return rules::first::answer(brought, file, key, body, algorithm, full, reply);
+    };
+    let peer = t.peers[i];
+    let phase = peer.phase;
+    let Phase::Waiting(_) = phase else {
+        return rules::only(Answer::PeerInstalled, Leaves::Same);
+    };
+    rules::first::answer(brought, file, key, body, algorithm, false, reply)
+}
+
+fn on_third(
+    t: Table,
+    address: [u8; 6],
+    reading: Tu,
+    mic: &[u8],
+    body: &[u8],
+    status: u16,
+) -> Verdict
+    requires { ⌜ inClock reading ≡ true ⌝ }
+    ensures { λ r. ⌜ ThirdGets t address reading (now (mic .entry)) (now (body .entry)) status r ⌝ }
+{
+    let found = peers::find(t, address, reading);
+    let Found::At(i) = found else {
+        return rules::only(Answer::NoExchange, Leaves::Same);
+    };
+    let peer = t.peers[i];
+    rules::third::answer(peer, reading, mic, body, status)
+}
+
+// What a body gets, once the call is checked.
+fn on_body(
+    t: Table,
+    brought: Brought,
+    file: &[u8],
+    key: &[u8],
+    mic: &[u8],
+    body: &[u8],
+    reply: &mut [u8],
+) -> Verdict
+    requires { ⌜ Ready brought (now file) (length (now reply)) × (inClock (brought .reading) ≡ true) ⌝ }
+    ensures { λ r. ⌜ BodyGets t brought (now (file .entry)) (now (key .entry)) (now (mic .entry)) (now (body .entry)) (now (reply .entry)) (now (reply .exit)) r ⌝ }
+{
+    let opened = elements::open_body(body);
+    let Opened::Body(header) = opened else {
+        return rules::only(Answer::BodyLength, Leaves::Same);
+    };
+    if header.algorithm != PASN {
+        return rules::only(Answer::Algorithm, Leaves::WaitingGoes);
+    }
+    if header.transaction == 1 {
+        return on_first(t, brought, file, key, body, header.algorithm, reply);
+    }
+    if header.transaction == 3 {
+        let address = brought.address;
+        let reading = brought.reading;
+        return on_third(t, address, reading, mic, body, header.status);
+    }
+    rules::only(Answer::Transaction, Leaves::Same)
+}
+
+// A frame is received. The reply is the first `length` octets of its buffer; the rest is left alone.
+pub fn receive(
+    t: Table,
+    brought: Brought,
+    file: &[u8],
+    key: &[u8],
+    mic: &[u8],
+    body: &[u8],
+    reply: &mut [u8],
+) -> Received
+    ensures { λ r. ⌜ Receives t (callOf brought (now (file .entry)) (now (key .entry)) (now (mic .entry)) (now (body .entry)) (length (now (reply .entry)))) (now (reply .entry)) (now (reply .exit)) r ⌝ }
+{
+    let latest = t.latest;
+    let checked = check_call(latest, brought, file, reply.len());
+    match checked {
+        Checked::Failed(answer) => Received {
+            table: t,
+            answer: answer,
+            length: 0,
+        },
+        Checked::Passed => {
+            let verdict = on_body(t, brought, file, key, mic, body, reply);
+            let address = brought.address;
+            let reading = brought.reading;
+            let table = settle(t, address, reading, verdict);
+            let answer = verdict.answer;
+            Received {
+                table: table,
+                answer: answer,
+                length: verdict.length,
+            }
+        }
+    }
+}
+
+// A peer's record is removed, waiting or installed.
+pub fn remove(t: Table, address: [u8; 6], reading: Tu) -> Removed
+    ensures { λ r. ⌜ Removes t address reading r ⌝ }
+{
+    let latest = t.latest;
+    if !clock_fits(latest, reading) {
+        return Removed {
+            table: t,
+            answer: Removal::ClockOut,
+        };
+    }
+    if is_group_address(address) {
+        return Removed {
+            table: t,
+            answer: Removal::GroupAddress,
+        };
+    }
+    let mut u = t;
+    u.latest = reading;
+    let found = peers::find(t, address, reading);
+    let Found::At(_) = found else {
+        return Removed {
+            table: u,
+            answer: Removal::NoRecord,
+        };
+    };
+    Removed {
+        table: peers::drop(u, address),
+        answer: Removal::Removed,
+    }
+}
+
+fn nothing_shown(answer: LookUp) -> LookedUp
+    ensures { λ r. ⌜ (r .answer ≡ answer) × (r .peer ≡ vacantPeer) ⌝ }
+{
+    LookedUp {
+        answer: answer,
+        peer: peers::vacant(),
+    }
+}
+
+// The live record of an address. The latest reading stays as it was.
+pub fn look_up(t: Table, address: [u8; 6], reading: Tu) -> LookedUp
+    ensures { λ r. ⌜ LooksUp t address reading r ⌝ }
+{
+    let latest = t.latest;
+    if !clock_fits(latest, reading) {
+        return nothing_shown(LookUp::ClockOut);
+    }
+    if is_group_address(address) {
+        return nothing_shown(LookUp::GroupAddress);
+    }
+    let found = peers::find(t, address, reading);
+    let Found::At(i) = found else {
+        return nothing_shown(LookUp::NoRecord);
+    };
+    let peer = t.peers[i];
+    LookedUp {
+        answer: LookUp::Shown,
+        peer: peer,
+    }
+}
+
+// The operations on bodies, as `frames` has them.
+pub fn show_key(body: &[u8]) -> &[u8]
+    ensures { λ r. ⌜ now r ≡ content (now (body .entry)) (keyPart (now (body .entry))) ⌝ }
+{
+    frames::bodies::show_key(body)
+}
+
+pub fn zero_mic(body: &[u8], out: &mut [u8]) -> MicAnswer
+    ensures answers { λ r. ⌜ r ≡ zeroAnswer (now (body .entry)) (length (now (out .entry))) ⌝ }
+    ensures leaves { λ _. ⌜ now (out .exit) ≡ zeroed (now (body .entry)) (now (out .entry)) ⌝ }
+{
+    frames::bodies::zero_mic(body, out)
+}
+
+pub fn set_mic(body: &mut [u8], mic: &[u8]) -> MicAnswer
+    ensures answers { λ r. ⌜ r ≡ setAnswer (now (body .entry)) (now (mic .entry)) ⌝ }
+    ensures leaves { λ _. ⌜ now (body .exit) ≡ setOctets (now (body .entry)) (now (mic .entry)) ⌝ }
+{
+    frames::bodies::set_mic(body, mic)
+}

@@ -1,6 +1,6 @@
 -- What is known of a choice, and of the records of a file.
 use mathlib.Core.Path.{_≡_, refl, sym, ap, _∙_, subst}
-use mathlib.Core.Bool.{Bool, true, false, _&&_, false≢true}
+use mathlib.Core.Bool.{Bool, true, false, _&&_}
 use mathlib.Core.List.{List, [], _∷_}
 use mathlib.Core.Option.{Option, none, some, Option·some-injective, Option·none-ne-some}
 use Prim.Native.Nat.{ℕ, zero, suc, _+_, _-_, _^_, _≤_, _<_}
@@ -14,6 +14,7 @@ use Rattle.octets.specs.Choice.{if_then_else_}
 use Rattle.octets.specs.Equality.{sameOctets}
 use Rattle.octets.specs.Search.{first, entry}
 use Rattle.octets.proofs.Equality.{same-eq}
+use Rattle.octets.proofs.Logic.{both}
 use Rattle.octets.proofs.Numbers.{le-bound}
 use Rattle.units.specs.declared.Tu.{Tu}
 use Rattle.cache.specs.declared.Read.{Read}
@@ -31,10 +32,6 @@ pub record Matched (cs : List Cached) (pmkid : List ℕ) (akm : ℕ) (reading : 
   pub same-pmkid : c .pmkid ≡ pmkid
   pub same-akm : c .akm ≡ akm
   pub later : reading .0 < c .end
-
-both : (a b : Bool) → a && b ≡ true → (a ≡ true) × (b ≡ true)
-both true b e = (refl, e)
-both false b e = absurd (false≢true e)
 
 module _ (pmkid : List ℕ) (akm : ℕ) (reading : Tu) where
   pub matched : (cs : List Cached) (c : Cached) → foundOf cs pmkid akm reading ≡ some c → Matched cs pmkid akm reading c

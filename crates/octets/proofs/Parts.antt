@@ -48,6 +48,11 @@ wrote-front d a h =
     let n : length (take a d) ≡ a = length-take-le a d h in
     record { tells = sym n; leaves = sym (ap (λ (k : ℕ). take a d ++ drop k d) n ∙ take-append-drop a d) }
 
+-- what was written lies within what stands there afterwards
+pub wrote-within : {written before after : List ℕ} {n : ℕ} → Wrote written n before after → n ≤ length after
+wrote-within {written} {before} w =
+    omega (arith, w .tells, ap length (w .leaves) ∙ length-append written (drop (length written) before))
+
 pub wrote-length : {written before after : List ℕ} {n : ℕ} → Wrote written n before after → length written ≤ length before
     → length after ≡ length before
 wrote-length {written} {before} {after} w h =

@@ -6,10 +6,10 @@ ghost use Rattle.frames.specs.Contents.{content};
 ghost use Rattle.frames.specs.Bodies.{keyPart, zeroAnswer, zeroed, setAnswer, setOctets};
 ghost use Rattle.peers.specs.Promises.{Nobody};
 ghost use Rattle.peers.specs.View.{shows, vacantPeer};
-ghost use Rattle.rules.specs.OnePeer.{clockFits, settingsFit, isGroupAddress};
+ghost use Rattle.rules.specs.OnePeer.{numberOf, clockFits, settingsFit, isGroupAddress};
 ghost use Rattle.rules.specs.Told.{Ready};
 ghost use Rattle.units.specs.Units.{inClock};
-ghost use Rattle.platform.specs.Promises.{checkedOf, waits, Settles, Seats, leftBy, FirstGets, ThirdGets, BodyGets, callOf, Receives, Removes, LooksUp};
+ghost use Rattle.platform.specs.Promises.{checkedOf, waits, Settles, Seats, leftBy, FirstGets, ThirdGets, BodyGets, callOf, Receives, Removes, LooksUp, removalNumber, lookNumber};
 use elements::Opened;
 use frames::bodies::MicAnswer;
 use frames::bodies::PASN;
@@ -55,6 +55,52 @@ pub enum LookUp {
 pub struct LookedUp {
     pub answer: LookUp,
     pub peer: Peer,
+}
+
+// The answers' numbers in document 01.
+pub fn answer_number(answer: Answer) -> u8
+    ensures { λ r. ⌜ r ≡ numberOf answer ⌝ }
+{
+    match answer {
+        Answer::Accepted => 0,
+        Answer::ClockOut => 1,
+        Answer::BufferShort => 2,
+        Answer::SettingsOut => 3,
+        Answer::GroupAddress => 4,
+        Answer::CacheIll => 5,
+        Answer::OwnKey => 6,
+        Answer::BodyLength => 7,
+        Answer::Algorithm => 8,
+        Answer::Transaction => 9,
+        Answer::PeerInstalled => 10,
+        Answer::Refused(_) => 11,
+        Answer::StatusNotZero => 12,
+        Answer::NoExchange => 13,
+        Answer::ThirdRefused => 14,
+        Answer::Installed => 15,
+    }
+}
+
+pub fn removal_number(answer: Removal) -> u8
+    ensures { λ r. ⌜ r ≡ removalNumber answer ⌝ }
+{
+    match answer {
+        Removal::ClockOut => 1,
+        Removal::GroupAddress => 4,
+        Removal::NoRecord => 17,
+        Removal::Removed => 16,
+    }
+}
+
+pub fn look_number(answer: LookUp) -> u8
+    ensures { λ r. ⌜ r ≡ lookNumber answer ⌝ }
+{
+    match answer {
+        LookUp::ClockOut => 1,
+        LookUp::GroupAddress => 4,
+        LookUp::NoRecord => 17,
+        LookUp::Shown => 18,
+    }
 }
 
 const SMALLEST_BUFFER: usize = 148;

@@ -1,0 +1,111 @@
+// The line of each call.
+use crate::text::put;
+use crate::text::put_number;
+use crate::text::put_octets;
+use frames::bodies::MicAnswer;
+use peers::Peer;
+use peers::Phase;
+use platform::LookUp;
+use platform::LookedUp;
+use platform::Removal;
+use rules::Answer;
+
+fn put_status(answer: Answer) {
+    match answer {
+        Answer::Refused(status) => {
+            put_number(status as u64);
+        }
+        _ => {
+            put(b"-");
+        }
+    }
+}
+
+pub fn put_received(answer: Answer, reply: &[u8]) {
+    put(b"receive ");
+    put_number(platform::answer_number(answer) as u64);
+    put(b" ");
+    put_status(answer);
+    put(b" ");
+    put_number(reply.len() as u64);
+    put(b" ");
+    put_octets(reply);
+    put(b"\n");
+}
+
+fn put_pmkid(peer: Peer) {
+    if peer.cached {
+        put_octets(&peer.pmkid);
+    } else {
+        put(b"-");
+    }
+}
+
+fn put_peer(peer: Peer) {
+    let phase = peer.phase;
+    let lifetime = peer.lifetime;
+    put_phase(phase);
+    put_number(peer.cipher as u64);
+    put(b" ");
+    put_number(peer.akm as u64);
+    put(b" ");
+    put_pmkid(peer);
+    put(b" ");
+    put_number(lifetime.0 as u64);
+    put(b" ");
+    put_number(until(phase));
+}
+
+fn put_phase(phase: Phase) {
+    match phase {
+        Phase::Waiting(_) => {
+            put(b" waiting ");
+        }
+        Phase::Installed(_) => {
+            put(b" installed ");
+        }
+    }
+}
+
+fn until(phase: Phase) -> u64 {
+    match phase {
+        Phase::Waiting(deadline) => deadline.0,
+        Phase::Installed(end) => end.0,
+    }
+}
+
+pub fn put_looked_up(looked: LookedUp) {
+    let answer = looked.answer;
+    let peer = looked.peer;
+    put(b"look ");
+    put_number(platform::look_number(answer) as u64);
+    if let LookUp::Shown = answer {
+        put_peer(peer);
+    }
+    put(b"\n");
+}
+
+pub fn put_removed(answer: Removal) {
+    put(b"remove ");
+    put_number(platform::removal_number(answer) as u64);
+    put(b"\n");
+}
+
+pub fn put_key(key: &[u8]) {
+    put(b"key ");
+    put_octets(key);
+    put(b"\n");
+}
+
+// What setting or zeroing a MIC comes to; `output` is shown where it was done.
+pub fn put_mic(operation: &[u8], answer: MicAnswer, output: &[u8]) {
+    put(operation);
+    put_number(frames::bodies::number_of(answer) as u64);
+    put(b" ");
+    if let MicAnswer::Done = answer {
+        put_octets(output);
+    } else {
+        put(b"-");
+    }
+    put(b"\n");
+}

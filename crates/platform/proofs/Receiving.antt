@@ -20,17 +20,17 @@ use Rattle.peers.specs.View.{shows, full}
 use Rattle.rules.specs.declared.Answer.{Answer}
 use Rattle.rules.specs.declared.Brought.{Brought}
 use Rattle.rules.specs.declared.Verdict.{Verdict}
-use Rattle.rules.specs.OnePeer.{Call, Outcome, unchanged, clockFits, settingsFit, isGroupAddress, steps, onBody, receiveOf}
+use Rattle.rules.specs.OnePeer.{Call, numberOf, Outcome, unchanged, clockFits, settingsFit, isGroupAddress, steps, onBody, receiveOf}
 use Rattle.rules.specs.Told.{Ready, Gets, leftOf}
 use Rattle.platform.specs.declared.Checked.{Checked}
 use Rattle.platform.specs.declared.Received.{Received}
 use Rattle.platform.specs.Promises.{checkedOf, callOf, isEarly, Settles, Answers}
-use Rattle.platform.proofs.Settling.{settles-none, settles-by}
+use Rattle.platform.proofs.Settling.{dates-early, dates-late, settles-none, settles-by}
 use Rattle.platform.proofs.Sound.{Sound}
 
 -- where the checks fail, nothing changes; where they pass, the body decides
 abbrev Comes : Checked → Outcome → Outcome → Type 0
-Comes (Checked.Failed answer) o rest = (o ≡ unchanged answer) × (isEarly answer ≡ true)
+Comes (Checked.Failed answer) o rest = (o ≡ unchanged answer) × (isEarly (numberOf answer) ≡ true)
 Comes Checked.Passed o rest = o ≡ rest
 
 comes : (clock room settings group cache : Bool) (rest : Outcome)
@@ -56,7 +56,7 @@ module _ (latest : Tu) (brought : Brought) (file key mic body : List ℕ) (room 
     told = subst (λ (k : Checked). Comes k (receiveOf latest full own (callOf brought file key mic body room)) (onBody (callOf brought file key mic body room) (bodyOf body) full own)) (sym c) by-checks
 
     pub failed : {answer : Answer} → checked ≡ Checked.Failed answer
-        → (receiveOf latest full own (callOf brought file key mic body room) ≡ unchanged answer) × (isEarly answer ≡ true)
+        → (receiveOf latest full own (callOf brought file key mic body room) ≡ unchanged answer) × (isEarly (numberOf answer) ≡ true)
     failed e = subst (λ (k : Checked). Comes k (receiveOf latest full own (callOf brought file key mic body room)) (onBody (callOf brought file key mic body room) (bodyOf body) full own)) e told
 
     pub passed : checked ≡ Checked.Passed
@@ -101,13 +101,12 @@ module _ (latest : Tu) (brought : Brought) (file : List ℕ) (room : ℕ) where
       (isGroupAddress (brought .address)) (not (isWellFormed file)) (double _) refl (double _) (double _))
 
 module _ (t : Table) (call : Call) where
-  pub answers-failed : {o : Outcome} {answer : Answer} (before : List ℕ) → (o ≡ unchanged answer) × (isEarly answer ≡ true)
+  pub answers-failed : {o : Outcome} {answer : Answer} (before : List ℕ) → (o ≡ unchanged answer) × (isEarly (numberOf answer) ≡ true)
       → Answers t call o before before (record { table = t; answer = answer; length = 0 })
   answers-failed {answer = answer} before e = subst (λ (o : Outcome). Answers t call o before before (record { table = t; answer = answer; length = 0 })) (sym (e .0)) (record {
     answer = refl;
     reply = wrote-none before;
-    early = λ h. refl;
-    latest = λ h. absurd (true≢false (sym (e .1) ∙ h));
+    dates = dates-early t (call .reading) (e .1);
     settles = settles-none t (call .address) (call .reading);
   })
 
@@ -119,7 +118,6 @@ module _ (t : Table) (call : Call) where
       subst (λ (x : Outcome). Answers t call x before after (record { table = r; answer = v .answer; length = v .length })) (sym e) (record {
         answer = g .answer;
         reply = g .wrote;
-        early = λ k. absurd (true≢false (sym k ∙ s .late));
-        latest = λ k. h .1;
+        dates = dates-late t (s .late) (h .1);
         settles = settles-by t (call .address) (call .reading) (h .0) (g .leaves);
       })

@@ -16,7 +16,7 @@ use Rattle.peers.specs.View.{other, shows, others, full}
 use Rattle.rules.specs.declared.Leaves.{Leaves}
 use Rattle.rules.specs.OnePeer.{Left, same, gone, becomes, waitingGoes, withoutWaiting}
 use Rattle.rules.specs.Told.{leftOf}
-use Rattle.platform.specs.Promises.{Settles, isWaiting, waits}
+use Rattle.platform.specs.Promises.{Settles, isEarly, Dates, isWaiting, waits}
 
 -- a table at another latest reading shows the same
 abbrev pub dated : Table → Tu → Table
@@ -25,6 +25,13 @@ dated t n = record { peers = t .peers; latest = n }
 either : {A : Type 0} (b : Bool) (x : A) → x ≡ (if b then x else x)
 either true x = refl
 either false x = refl
+
+module _ (t : Table) where
+  pub dates-early : (n : Tu) {number : ℕ} → isEarly number ≡ true → Dates t n number t
+  dates-early n e = record { early = λ h. refl; latest = λ h. absurd (true≢false (sym e ∙ h)) }
+
+  pub dates-late : {n : Tu} {number : ℕ} {r : Table} → isEarly number ≡ false → r .latest ≡ n → Dates t n number r
+  dates-late e l = record { early = λ h. absurd (true≢false (sym h ∙ e)); latest = λ h. l }
 
 module _ (t : Table) (a : List ℕ) (n : Tu) where
   pub settles-same : Settles t a n same (dated t n)

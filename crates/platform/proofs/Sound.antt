@@ -19,7 +19,7 @@ use Rattle.peers.specs.declared.Phase.the-variants.{Waiting, Installed}
 use Rattle.peers.specs.declared.Table.{Table}
 use Rattle.peers.specs.View.{shows, full}
 use Rattle.peers.proofs.Laws.{shown-is, full-shown}
-use Rattle.rules.specs.OnePeer.{Call, same, Outcome, waitingGoes, withoutWaiting, Step, refuse, pass, _>>=_, step1, step10, step11, suiteSteps, keySteps, Passed, steps, firstOutcome, firstOn, firstFrame, thirdMic, thirdAkm, thirdOn, thirdFrame, onBody}
+use Rattle.rules.specs.OnePeer.{Call, numberOf, same, Outcome, waitingGoes, withoutWaiting, Step, refuse, pass, _>>=_, step1, step10, step11, suiteSteps, keySteps, Passed, steps, firstOutcome, firstOn, firstFrame, thirdMic, thirdAkm, thirdOn, thirdFrame, onBody}
 use Rattle.platform.specs.Promises.{Seats, isEarly}
 
 -- who passes the eleventh step has room
@@ -47,7 +47,7 @@ roomy call full =
 module _ (t : Table) (n : Tu) (call : Call) where
   pub record Sound (o : Outcome) : Type 0 where
     pub seats : Seats t (call .address) n (o .leaves)
-    pub late : isEarly (o .answer) ≡ false
+    pub late : isEarly (numberOf (o .answer)) ≡ false
 
   either : (b : Bool) {o p : Outcome} → Sound o → Sound p → Sound (if b then o else p)
   either true s u = s

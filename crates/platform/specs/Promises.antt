@@ -1,7 +1,7 @@
 -- What the unit's operations promise, by what the tables show.
 use Prim.Native.Nat.{ℕ, _+_, _≤_}
 use mathlib.Core.Path.{_≡_}
-use mathlib.Core.Bool.{Bool, true, false, not}
+use mathlib.Core.Bool.{Bool, true, false, _&&_, not}
 use mathlib.Core.List.{List, [], _∷_}
 use mathlib.Core.Option.{Option, none, some}
 use lib.Dec.{ltb, leb}
@@ -106,16 +106,20 @@ BodyGets t brought file key mic body before after r =
     Gets (onBody (callOf brought file key mic body (length before)) (bodyOf body) (full t (brought .reading) (brought .address)) (shows t (brought .reading) (brought .address)))
     (shows t (brought .reading) (brought .address)) before after r
 
--- whether an answer is one of 1 to 5, which leave the table as it was
-abbrev pub isEarly : Answer → Bool
-isEarly answer = if leb 1 (numberOf answer) then leb (numberOf answer) 5 else false
+-- whether an answer is one of 1 to 5
+abbrev pub isEarly : ℕ → Bool
+isEarly number = leb 1 number && leb number 5
+
+-- The answers 1 to 5 leave the table as it was, its latest reading too. Any other sets the latest reading.
+pub record Dates (t : Table) (n : Tu) (number : ℕ) (r : Table) : Type 0 where
+  pub early : isEarly number ≡ true → r ≡ t
+  pub latest : isEarly number ≡ false → r .latest ≡ n
 
 -- What a receive promises: the answer and the length told, each octet of the reply buffer, the latest reading, and what the table shows.
 pub record Answers (t : Table) (call : Call) (outcome : Outcome) (before after : List ℕ) (r : Received) : Type 0 where
   pub answer : r .answer ≡ outcome .answer
   pub reply : Wrote (outcome .reply) (r .length) before after
-  pub early : isEarly (outcome .answer) ≡ true → r .table ≡ t
-  pub latest : isEarly (outcome .answer) ≡ false → r .table .latest ≡ call .reading
+  pub dates : Dates t (call .reading) (numberOf (outcome .answer)) (r .table)
   pub settles : Settles t (call .address) (call .reading) (outcome .leaves) (r .table)
 
 -- A receive gets what the one-peer rules give, by what the table shows of this address.
@@ -138,16 +142,9 @@ leftByRemoval Removal.GroupAddress = same
 leftByRemoval Removal.NoRecord = same
 leftByRemoval Removal.Removed = gone
 
--- 1 and 4 leave the table as it was; 17 and 16 set the latest reading
-abbrev pub dateOf : Tu → Tu → Removal → Tu
-dateOf latest n Removal.ClockOut = latest
-dateOf latest n Removal.GroupAddress = latest
-dateOf latest n Removal.NoRecord = n
-dateOf latest n Removal.Removed = n
-
 pub record Removes (t : Table) (address : List ℕ) (n : Tu) (r : Removed) : Type 0 where
   pub number : removalNumber (r .answer) ≡ removeOf (t .latest) n address (shows t n address)
-  pub latest : r .table .latest ≡ dateOf (t .latest) n (r .answer)
+  pub dates : Dates t n (removalNumber (r .answer)) (r .table)
   pub settles : Settles t address n (leftByRemoval (r .answer)) (r .table)
 
 abbrev pub lookNumber : LookUp → ℕ

@@ -48,7 +48,11 @@ wrote-front d a h =
     let n : length (take a d) ≡ a = length-take-le a d h in
     record { tells = sym n; leaves = sym (ap (λ (k : ℕ). take a d ++ drop k d) n ∙ take-append-drop a d) }
 
--- what was written lies within what stands there afterwards
+-- what was written stands at the front
+pub wrote-stands : {written before after : List ℕ} {n : ℕ} → Wrote written n before after → take n after ≡ written
+wrote-stands {written} {before} {n = n} w = ap (take n) (w .leaves) ∙ take-at written (drop (length written) before) n (sym (w .tells))
+
+-- and lies within what is there afterwards
 pub wrote-within : {written before after : List ℕ} {n : ℕ} → Wrote written n before after → n ≤ length after
 wrote-within {written} {before} w =
     omega (arith, w .tells, ap length (w .leaves) ∙ length-append written (drop (length written) before))
@@ -82,16 +86,13 @@ module _ {written before after : List ℕ} {a : ℕ} (w : Wrote written a before
       → Wrote (written ++ more) (a + n) before (putMid a (length after - a) after ys)
   wrote-more {more} {ys} {n} v = record {
     tells = omega (arith, length-append written more, w .tells, v .tells);
-    leaves = ap (λ (l : List ℕ). l ++ (ys ++ drop (length after - a) (drop a after))) front
+    leaves = ap (λ (l : List ℕ). l ++ (ys ++ drop (length after - a) (drop a after))) (wrote-stands w)
         ∙ ap (λ (l : List ℕ). written ++ (ys ++ l)) none-left
         ∙ ap (λ (l : List ℕ). written ++ l) (append-nil ys ∙ v .leaves ∙ ap (λ (l : List ℕ). more ++ drop (length more) l) part)
         ∙ ap (λ (l : List ℕ). written ++ (more ++ l)) (drop-drop (length more) a before ∙ ap (λ (k : ℕ). drop k before) end)
         ∙ sym (append-assoc written more (drop (length (written ++ more)) before));
   }
     where
-      front : take a after ≡ written
-      front = ap (take a) (w .leaves) ∙ take-at written (drop (length written) before) a (sym (w .tells))
-
       none-left : drop (length after - a) (drop a after) ≡ []
       none-left = ap (λ (k : ℕ). drop k (drop a after)) (sym (length-drop a after)) ∙ drop-length (drop a after)
 

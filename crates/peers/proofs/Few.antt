@@ -31,7 +31,7 @@ both-fewer false true = omega arith
 both-fewer false false = omega arith
 
 module _ (a : List ℕ) (these : List (List ℕ)) where
-  outside-fewer : (bs : List (List ℕ)) → count (outside (a ∷ these)) bs ≤ count (outside these) bs
+  pub outside-fewer : (bs : List (List ℕ)) → count (outside (a ∷ these)) bs ≤ count (outside these) bs
   outside-fewer bs = count-stricter (outside these) (outside (a ∷ these)) (λ b e. rw e (and-false (not (sameOctets b a)))) bs
 
   -- a is one of them, so that leaving it out makes one fewer

@@ -21,10 +21,10 @@ use Rattle.frames.specs.Contents.{content}
 use Rattle.rules.specs.declared.Settings.{Settings}
 use Rattle.rules.specs.OnePeer.{Call, Step, refuse, pass, _>>=_, akmAllowed, step1, step2, step3, step4, step5, step6, step7, step8, step9, step10, step11, Suites, Passed, suiteSteps, keySteps, steps, grouped}
 
-refuse-pass : {A : Type 0} {status : ℕ} {x : A} → _≡_ {A = Step A} (refuse status) (pass x) → ⊥
+pub refuse-pass : {A : Type 0} {status : ℕ} {x : A} → _≡_ {A = Step A} (refuse status) (pass x) → ⊥
 refuse-pass e = let z : _≡_ {A = ℕ} 0 1 = cc in omega arith
 
-pass-same : {A : Type 0} {x y : A} → pass x ≡ pass y → x ≡ y
+pub pass-same : {A : Type 0} {x y : A} → pass x ≡ pass y → x ≡ y
 pass-same e = cc
 
 -- a chain that passes passes at its first step, and then
@@ -33,7 +33,7 @@ pub record Bound {A B : Type 0} (m : Step A) (f : A → Step B) (y : B) : Type 0
   pub here : m ≡ pass value
   pub rest : f value ≡ pass y
 
-bound : {A B : Type 0} (m : Step A) (f : A → Step B) {y : B} → m >>= f ≡ pass y → Bound m f y
+pub bound : {A B : Type 0} (m : Step A) (f : A → Step B) {y : B} → m >>= f ≡ pass y → Bound m f y
 bound (refuse status) f e = absurd (refuse-pass e)
 bound (pass x) f e = record { value = x; here = refl; rest = e }
 

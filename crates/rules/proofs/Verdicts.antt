@@ -1,11 +1,13 @@
 -- A verdict that writes nothing, as an outcome.
-use mathlib.Core.Path.{_≡_, refl, ap, subst, _∙_}
-use mathlib.Core.List.{[]}
+use mathlib.Core.Path.{_≡_, refl, sym, ap, subst, _∙_}
+use mathlib.Core.List.{List, []}
 use mathlib.Core.Option.{Option, none, some}
 use Prim.Native.Nat.{ℕ}
 use mathlib.Core.Bool.{true, false}
 use borrow.Author.Tests.{eq-eqb, ne-eqb}
 use Rattle.octets.specs.Equality.{sameOctets}
+use Rattle.octets.specs.Wrote.{Wrote}
+use Rattle.octets.proofs.Parts.{wrote-none}
 use Rattle.units.specs.declared.Tu.{Tu}
 use Rattle.elements.specs.declared.Part.{Part}
 use Rattle.suites.specs.declared.Akm.{Akm}
@@ -21,7 +23,7 @@ use Rattle.rules.specs.declared.Answer.{Answer}
 use Rattle.rules.specs.declared.Leaves.{Leaves}
 use Rattle.rules.specs.declared.Verdict.{Verdict}
 use Rattle.rules.specs.OnePeer.{Call, Outcome, gone, becomes, unchanged, waitingGoes, installedPeer, thirdMic, thirdAkm, thirdOn, thirdFrame}
-use Rattle.rules.specs.Told.{leftOf, Only, Decides}
+use Rattle.rules.specs.Told.{leftOf, Gets, Only, Decides}
 
 pub decides-same : {o o' : Outcome} {own : Option Peer} {r : Verdict} → o ≡ o' → Decides o own r → Decides o' own r
 decides-same {own = own} {r = r} e d = subst (λ (o : Outcome). Decides o own r) e d
@@ -45,6 +47,14 @@ goes {answer} {r} p h v = record {
   silent = refl;
   told = v .told;
   leaves = ap (λ (l : Leaves). leftOf (some p) l (r .peer)) (v .left) ∙ ap waitingGoes h;
+}
+
+-- and the buffer is left as it was
+pub decides-gets : {o : Outcome} {own : Option Peer} {r : Verdict} (d : List ℕ) → Decides o own r → Gets o own d d r
+decides-gets {o} {own} {r} d v = record {
+  answer = v .answer;
+  wrote = subst (λ (n : ℕ). Wrote (o .reply) n d d) (sym (v .told)) (subst (λ (l : List ℕ). Wrote l 0 d d) (sym (v .silent)) (wrote-none d));
+  leaves = v .leaves;
 }
 
 -- a third frame, by what is known of it

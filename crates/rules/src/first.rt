@@ -411,12 +411,7 @@ fn accept(
 {
     let group = decided.group;
     if !suites::is_key_of(group, key) {
-        return Verdict {
-            answer: Answer::OwnKey,
-            length: 0,
-            leaves: Leaves::Same,
-            peer: peers::vacant(),
-        };
+        return crate::only(Answer::OwnKey, Leaves::Same);
     }
     let akm = decided.akm;
     let lifetime = decided.lifetime;

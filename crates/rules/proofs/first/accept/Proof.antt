@@ -2,7 +2,7 @@ use Rattle.rules.specs.OnePeer.{becomes}
 use mathlib.Core.Path.{refl, sym, ap, _∙_}
 use native.Mathlib.Omega.{arith}
 use borrow.Author.Tests.{not-true, not-false}
-use Rattle.octets.proofs.Parts.{wrote-none}
+use Rattle.rules.proofs.Verdicts.{stays, decides-gets}
 use borrow.Author.Needs.{needs}
 use Rattle.rules.proofs.first.accept.Statement.{statement}
 use Rattle.rules.proofs.first.accept.Tie as tie
@@ -10,13 +10,13 @@ use Rattle.rules.proofs.first.accept.Tie as tie
 is-key-of-requires : tie.Need-is-key-of-requires
 is-key-of-requires c κs = search needs
 
-vacant-requires : tie.Need-vacant-requires
-vacant-requires c κs = search needs
+only-requires : tie.Need-only-requires
+only-requires c κs = search needs
 
 returns : tie.Need-returns
 returns c =
     let p = c .before .before in
-    λ own. rw (sym (p .is-key-of .ensures) ∙ not-true _ (c .before .if1 .taken)) (record { answer = refl; wrote = wrote-none _; leaves = refl })
+    λ own. rw (sym (p .is-key-of .ensures) ∙ not-true _ (c .before .if1 .taken)) (decides-gets _ (stays own (c .only .ensures)))
 
 put-requires : tie.Need-put-requires
 put-requires c κs =
@@ -43,7 +43,7 @@ accept-spec =
     tie.close
     (tie.spec
     is-key-of-requires
-    vacant-requires
+    only-requires
     returns
     put-requires
     waiting-requires

@@ -1,0 +1,16 @@
+pub mod Outcomes
+pub mod Latest
+pub mod Room
+pub mod Stepping
+pub mod Isolated
+pub mod Order
+pub mod Leaving
+pub mod Telling
+pub mod Keys
+pub mod Exchange
+pub mod EdgesHold
+pub mod CoincideLaws
+pub mod ReadsBackExact
+pub mod ReadsBackSteps
+pub mod ReadsBackReply
+pub mod ShutsOutInputs

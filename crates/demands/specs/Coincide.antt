@@ -1,0 +1,56 @@
+-- Any two outcomes that an operation's promise allows for one input are the same.
+use mathlib.Core.Path.{_≡_}
+use mathlib.Core.List.{List}
+use Prim.Native.Nat.{ℕ}
+use lib.ListN.{length}
+use Rattle.units.specs.declared.Tu.{Tu}
+use Rattle.frames.specs.declared.bodies.MicAnswer.{MicAnswer}
+use Rattle.frames.specs.Bodies.{keyPart, zeroAnswer, zeroed, setAnswer, setOctets}
+use Rattle.frames.specs.Contents.{content}
+use Rattle.peers.specs.declared.Table.{Table}
+use Rattle.peers.specs.Alike.{Alike}
+use Rattle.peers.specs.Promises.{Nobody}
+use Rattle.rules.specs.OnePeer.{Call}
+use Rattle.platform.specs.declared.LookedUp.{LookedUp}
+use Rattle.platform.specs.declared.Received.{Received}
+use Rattle.platform.specs.declared.Removed.{Removed}
+use Rattle.platform.specs.Promises.{Receives, Removes, LooksUp}
+
+-- Tables are compared by their latest reading and by what they show at every reading from it on.
+abbrev pub Match : Table → Table → Type 0
+Match t u = Alike (t .latest) t u
+
+-- What an operation gives for a table, and for one that matches it, is the same. A table matches itself.
+abbrev pub Coincide : {Outcome : Type 0} → (Table → Outcome → Type 0) → (Outcome → Outcome → Type 0) → Type 0
+Coincide {Outcome} Allowed Same = (t u : Table) → Match t u → (x y : Outcome) → Allowed t x → Allowed u y → Same x y
+
+-- a receive's outcome, and its reply buffer afterwards
+pub record Reception : Type 0 where
+  pub received : Received
+  pub buffer : List ℕ
+
+pub record SameReception (x y : Reception) : Type 0 where
+  pub answer : x .received .answer ≡ y .received .answer
+  pub length : x .received .length ≡ y .received .length
+  pub buffer : x .buffer ≡ y .buffer
+  pub table : Match (x .received .table) (y .received .table)
+
+pub record SameRemoval (x y : Removed) : Type 0 where
+  pub answer : x .answer ≡ y .answer
+  pub table : Match (x .table) (y .table)
+
+-- the answer of an operation on a MIC, and its buffer afterwards
+pub record MicOutcome : Type 0 where
+  pub answer : MicAnswer
+  pub buffer : List ℕ
+
+pub record OutcomesCoincide : Type 0 where
+  pub empty : Coincide (λ t r. Nobody r) Match
+  pub receive : (call : Call) (before : List ℕ) → Coincide (λ t x. Receives t call before (x .buffer) (x .received)) SameReception
+  pub remove : (address : List ℕ) (reading : Tu) → Coincide (λ t r. Removes t address reading r) SameRemoval
+  pub look-up : (address : List ℕ) (reading : Tu) → Coincide {Outcome = LookedUp} (λ t r. LooksUp t address reading r) _≡_
+  pub show-key : (body : List ℕ) → Coincide (λ t key. key ≡ content body (keyPart body)) _≡_
+  pub zero-mic : (body before : List ℕ)
+      → Coincide {Outcome = MicOutcome} (λ t x. (x .answer ≡ zeroAnswer body (length before)) × (x .buffer ≡ zeroed body before)) _≡_
+  pub set-mic : (before mic : List ℕ)
+      → Coincide {Outcome = MicOutcome} (λ t x. (x .answer ≡ setAnswer before mic) × (x .buffer ≡ setOctets before mic)) _≡_

@@ -1,0 +1,7 @@
+pub mod Calls
+pub mod Isolation
+pub mod InstalledKey
+pub mod Edges
+pub mod Coincide
+pub mod ReadsBack
+pub mod ShutsOut

@@ -2,9 +2,10 @@
 ghost use Prim.Native.Nat.{_≤_};
 ghost use lib.ListN.{length};
 use crate::lines;
-use crate::state;
-use crate::state::LONGEST_BUFFER;
-use crate::state::State;
+use crate::setup::ANY;
+use crate::setup::LONGEST_BUFFER;
+use crate::setup::LONGEST_LENT;
+use crate::setup::Setup;
 use crate::text;
 use peers::Table;
 use rules::Answer;
@@ -42,10 +43,27 @@ fn one_if_installed(answer: Answer) -> u64 {
     0
 }
 
-// What a receive comes to: the table, and how many keys it installed.
-struct Heard {
-    table: Table,
-    installed: u64,
+// What a call record comes to: the table, whether the record is as its row allows, and how many keys were installed.
+pub struct Called {
+    pub table: Table,
+    pub fits: bool,
+    pub installed: u64,
+}
+
+fn done(t: Table) -> Called {
+    Called {
+        table: t,
+        fits: true,
+        installed: 0,
+    }
+}
+
+fn refuse(t: Table) -> Called {
+    Called {
+        table: t,
+        fits: false,
+        installed: 0,
+    }
 }
 
 fn hear(
@@ -56,33 +74,34 @@ fn hear(
     mic: &[u8],
     body: &[u8],
     reply: &mut [u8],
-) -> Heard {
+) -> Called {
     let received = platform::receive(t, brought, cache, key, mic, body, reply);
     let table = received.table;
     let answer = received.answer;
     let length = received.length;
     lines::put_received(answer, &reply[0..length]);
-    Heard {
+    Called {
         table: table,
+        fits: true,
         installed: one_if_installed(answer),
     }
 }
 
 fn receive_with(
-    s: State,
+    t: Table,
+    s: Setup,
     value: &[u8],
     cache: &[u8],
     key: &[u8],
     mic: &[u8],
     reply: &mut [u8],
-) -> State {
+) -> Called {
     if value.len() < WHO {
-        return state::refuse(s);
+        return refuse(t);
     }
     if value.len() > WHO + LONGEST_BODY {
-        return state::refuse(s);
+        return refuse(t);
     }
-    let table = s.table;
     let settings = s.settings;
     let brought = Brought {
         settings: settings,
@@ -90,24 +109,19 @@ fn receive_with(
         address: address_of(value),
         point: s.point,
     };
-    let heard = hear(table, brought, cache, key, mic, &value[WHO..], reply);
-    let after = heard.table;
-    State {
-        table: after,
-        counted: std::num::wrapping_add_u64(s.counted, heard.installed),
-        ..s
-    }
+    hear(t, brought, cache, key, mic, &value[WHO..], reply)
 }
 
 // A receive, with what is in force of each buffer.
-pub fn receive(
-    s: State,
+fn receive(
+    t: Table,
+    s: Setup,
     value: &[u8],
     cache: &[u8],
     key: &[u8],
     mic: &[u8],
     reply: &mut [u8],
-) -> State
+) -> Called
     requires { ⌜ (65536 ≤ length (now cache)) × (255 ≤ length (now key)) × (255 ≤ length (now mic)) × (65536 ≤ length (now reply)) ⌝ }
 {
     let file = s.cache as usize;
@@ -115,6 +129,7 @@ pub fn receive(
     let lent = s.mic as usize;
     let room = s.room as usize;
     receive_with(
+        t,
         s,
         value,
         &cache[0..file],
@@ -124,73 +139,92 @@ pub fn receive(
     )
 }
 
-pub fn look_up(s: State, value: &[u8]) -> State {
+fn look_up(t: Table, value: &[u8]) -> Called {
     if value.len() != WHO {
-        return state::refuse(s);
+        return refuse(t);
     }
-    let table = s.table;
-    let looked = platform::look_up(table, address_of(value), reading_of(value));
+    let looked = platform::look_up(t, address_of(value), reading_of(value));
     lines::put_looked_up(looked);
-    s
+    done(t)
 }
 
-pub fn remove(s: State, value: &[u8]) -> State {
+fn remove(t: Table, value: &[u8]) -> Called {
     if value.len() != WHO {
-        return state::refuse(s);
+        return refuse(t);
     }
-    let table = s.table;
-    let removed = platform::remove(table, address_of(value), reading_of(value));
+    let removed = platform::remove(t, address_of(value), reading_of(value));
     let answer = removed.answer;
     let after = removed.table;
     lines::put_removed(answer);
-    State { table: after, ..s }
+    done(after)
 }
 
-pub fn show_key(s: State, body: &[u8]) -> State {
+fn show_key(t: Table, body: &[u8]) -> Called {
     if body.len() > LONGEST_BODY {
-        return state::refuse(s);
+        return refuse(t);
     }
     lines::put_key(platform::show_key(body));
-    s
+    done(t)
 }
 
-pub fn zero_mic(s: State, value: &[u8], second: &mut [u8]) -> State
+fn zero_mic(t: Table, value: &[u8], second: &mut [u8]) -> Called
     requires { ⌜ 65536 ≤ length (now second) ⌝ }
 {
     if value.len() < 2 {
-        return state::refuse(s);
+        return refuse(t);
     }
     if value.len() > 2 + LONGEST_BODY {
-        return state::refuse(s);
+        return refuse(t);
     }
     let room = octets::le2(value, 0);
     if room > LONGEST_BUFFER {
-        return state::refuse(s);
+        return refuse(t);
     }
     let n = room as usize;
     let body_length = value.len() - 2;
     let answer = platform::zero_mic(&value[2..], &mut second[0..n]);
     lines::put_mic(b"zero ", answer, &second[0..body_length]);
-    s
+    done(t)
 }
 
-pub fn set_mic(s: State, body: &mut [u8], mic: &[u8]) -> State
+fn set_mic(t: Table, lent: u8, body: &mut [u8], mic: &[u8]) -> Called
     requires { ⌜ 255 ≤ length (now mic) ⌝ }
 {
     if body.len() > LONGEST_BODY {
-        return state::refuse(s);
+        return refuse(t);
     }
-    let lent = s.mic as usize;
-    let answer = platform::set_mic(body, &mic[0..lent]);
+    let n = lent as usize;
+    let answer = platform::set_mic(body, &mic[0..n]);
     lines::put_mic(b"set ", answer, body);
-    s
+    done(t)
 }
 
-pub fn empty(s: State, value: &[u8]) -> State {
+fn empty(t: Table, value: &[u8]) -> Called {
     if value.len() != 0 {
-        return state::refuse(s);
+        return refuse(t);
     }
     text::put(b"empty\n");
-    let table = platform::empty();
-    State { table: table, ..s }
+    done(platform::empty())
+}
+
+pub fn call(
+    t: Table,
+    s: Setup,
+    tag: u8,
+    value: &mut [u8],
+    cache: &[u8; ANY],
+    key: &[u8; LONGEST_LENT],
+    mic: &[u8; LONGEST_LENT],
+    buffer: &mut [u8; ANY],
+) -> Called {
+    match tag {
+        16 => receive(t, s, value, cache, key, mic, buffer),
+        17 => look_up(t, value),
+        18 => remove(t, value),
+        19 => show_key(t, value),
+        20 => zero_mic(t, value, buffer),
+        21 => set_mic(t, s.mic, value, mic),
+        22 => empty(t, value),
+        _ => refuse(t),
+    }
 }

@@ -1,56 +1,154 @@
 // Replays the call log on standard input: makes its calls, from the empty table on, and prints a line for each.
 mod calls;
 mod lines;
-mod state;
+mod setup;
 mod text;
 
 ghost use Prim.Native.Nat.{_≤_};
 ghost use lib.ListN.{length};
 use libc::STDIN_FILENO;
-use state::ANY;
-use state::Going;
-use state::LONGEST_LENT;
-use state::State;
+use peers::Table;
+use setup::ANY;
+use setup::LONGEST_LENT;
+use setup::Setup;
 
-// A record's tag and length.
-const HEAD: usize = 3;
+enum Going {
+    On,
+    Ended,
+    Bad,
+}
+
+// What is kept from record to record; `place` is that of the record at hand.
+struct State {
+    table: Table,
+    setup: Setup,
+    counted: u64,
+    place: u64,
+    going: Going,
+}
+
+// What a record leaves.
+struct Left {
+    table: Table,
+    setup: Setup,
+    installed: u64,
+}
 
 fn act(
-    s: State,
+    t: Table,
+    setup: Setup,
     tag: u8,
     value: &mut [u8],
     cache: &mut [u8; ANY],
     key: &mut [u8; LONGEST_LENT],
     mic: &mut [u8; LONGEST_LENT],
     buffer: &mut [u8; ANY],
-) -> State {
-    match tag {
-        1 => state::set_settings(s, value),
-        2 => state::set_cache(s, value, cache),
-        3 => state::set_point(s, value),
-        4 => state::set_own_key(s, value, key),
-        5 => state::set_lent_mic(s, value, mic),
-        6 => state::set_room(s, value),
-        16 => calls::receive(s, value, cache, key, mic, buffer),
-        17 => calls::look_up(s, value),
-        18 => calls::remove(s, value),
-        19 => calls::show_key(s, value),
-        20 => calls::zero_mic(s, value, buffer),
-        21 => calls::set_mic(s, value, mic),
-        22 => calls::empty(s, value),
-        _ => state::refuse(s),
+) -> Left {
+    if tag < 16 {
+        return Left {
+            table: t,
+            setup: setup::change(setup, tag, value, cache, key, mic),
+            installed: 0,
+        };
+    }
+    let called = calls::call(t, setup, tag, value, cache, key, mic, buffer);
+    let after = called.table;
+    Left {
+        table: after,
+        setup: setup::that_fits(setup, called.fits),
+        installed: called.installed,
     }
 }
 
-fn is_on(s: State) -> bool {
-    let going = s.going;
-    if let Going::On = going {
-        return true;
-    }
-    false
+// A record's tag and length.
+const HEAD: usize = 3;
+
+struct Head {
+    tag: u8,
+    length: u16,
 }
 
-// One record: it is read whole before it acts.
+enum Next {
+    Is(Head),
+    Ended,
+    Cut,
+}
+
+// Reads one record whole.
+fn read_next(value: &mut [u8]) -> Next
+    requires { ⌜ 65536 ≤ length (now value) ⌝ }
+{
+    let mut head = [0u8; HEAD];
+    let n = io::read_full(STDIN_FILENO, &mut head);
+    if n == 0 {
+        return Next::Ended;
+    }
+    if n < HEAD {
+        return Next::Cut;
+    }
+    let length = octets::le2(&head, 1);
+    let most = length as usize;
+    if io::read_full(STDIN_FILENO, &mut value[0..most]) < most {
+        return Next::Cut;
+    }
+    Next::Is(Head {
+        tag: head[0],
+        length: length,
+    })
+}
+
+fn going_by(setup: Setup) -> Going {
+    if setup.fits {
+        return Going::On;
+    }
+    Going::Bad
+}
+
+// The state after a record of so many octets. The place of one that does not fit is kept, to be told.
+fn moved_on(s: State, left: Left, octets: u64) -> State {
+    let table = left.table;
+    let setup = left.setup;
+    let mut place = s.place;
+    if setup.fits {
+        place = std::num::wrapping_add_u64(place, octets);
+    }
+    State {
+        table: table,
+        setup: setup,
+        counted: std::num::wrapping_add_u64(s.counted, left.installed),
+        place: place,
+        going: going_by(setup),
+    }
+}
+
+fn take(
+    s: State,
+    head: Head,
+    value: &mut [u8],
+    cache: &mut [u8; ANY],
+    key: &mut [u8; LONGEST_LENT],
+    mic: &mut [u8; LONGEST_LENT],
+    buffer: &mut [u8; ANY],
+) -> State
+    requires { ⌜ 65536 ≤ length (now value) ⌝ }
+{
+    let table = s.table;
+    let setup = s.setup;
+    let n = head.length as usize;
+    let left = act(
+        table,
+        setup,
+        head.tag,
+        &mut value[0..n],
+        cache,
+        key,
+        mic,
+        buffer,
+    );
+    moved_on(s, left, (HEAD + n) as u64)
+}
+
+// One record.
 fn step(
     s: State,
     value: &mut [u8],
@@ -61,31 +159,26 @@ fn step(
 ) -> State
     requires { ⌜ 65536 ≤ length (now value) ⌝ }
 {
-    let mut head = [0u8; HEAD];
-    let n = io::read_full(STDIN_FILENO, &mut head);
-    if n == 0 {
-        return State {
+    let next = read_next(value);
+    match next {
+        Next::Ended => State {
             going: Going::Ended,
             ..s
-        };
+        },
+        Next::Cut => State {
+            going: Going::Bad,
+            ..s
+        },
+        Next::Is(head) => take(s, head, value, cache, key, mic, buffer),
     }
-    if n < HEAD {
-        return state::refuse(s);
+}
+
+fn is_on(s: State) -> bool {
+    let going = s.going;
+    if let Going::On = going {
+        return true;
     }
-    let tag = head[0];
-    let length = octets::le2(&head, 1) as usize;
-    let got = io::read_full(STDIN_FILENO, &mut value[0..length]);
-    if got < length {
-        return state::refuse(s);
-    }
-    let after = act(s, tag, &mut value[0..length], cache, key, mic, buffer);
-    if !is_on(after) {
-        return after;
-    }
-    State {
-        place: std::num::wrapping_add_u64(s.place, (HEAD + length) as u64),
-        ..after
-    }
+    false
 }
 
 fn put_last(s: State) {
@@ -106,7 +199,13 @@ fn main() {
     let mut key = [0u8; LONGEST_LENT];
     let mut mic = [0u8; LONGEST_LENT];
     let mut buffer = [0u8; ANY];
-    let mut s = state::start();
+    let mut s = State {
+        table: platform::empty(),
+        setup: setup::start(),
+        counted: 0,
+        place: 0,
+        going: Going::On,
+    };
     // A proved loop ends: this one after more records than any log has.
     let mut records = u64::MAX;
     while records > 0 && is_on(s) {

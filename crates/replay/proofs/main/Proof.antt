@@ -10,6 +10,9 @@ Inv-loop value₀ cache₀ key₀ mic₀ buffer₀ s₀ records₀ value cache k
 abbrev μ-loop : tie.MeasureT-loop
 μ-loop value₀ cache₀ key₀ mic₀ buffer₀ s₀ records₀ value cache key mic buffer s records = records
 
+empty-requires : tie.Need-empty-requires Inv-loop μ-loop
+empty-requires c κs = search needs
+
 start-requires : tie.Need-start-requires Inv-loop μ-loop
 start-requires c κs = search needs
 
@@ -46,6 +49,7 @@ main-spec =
     (tie.spec
     Inv-loop
     μ-loop
+    empty-requires
     start-requires
     loop-holds
     is-on-requires

@@ -1,5 +1,4 @@
-// What is in force between two records of a log, and the set-up records that change it.
-use peers::Table;
+// What set-up records leave in force until the next one of their tag.
 use rules::Settings;
 use units::Seconds;
 use units::Tu;
@@ -14,57 +13,45 @@ pub const LONGEST_LENT: usize = 255;
 
 pub const LONGEST_BUFFER: u16 = 2048;
 
-pub enum Going {
-    On,
-    Ended,
-    Bad,
-}
-
-// `cache`, `key`, `mic` and `room` are lengths, of types that their buffers hold the most of; `place` is that of the record at hand.
-pub struct State {
-    pub table: Table,
+// `cache`, `key`, `mic` and `room` are lengths, of types that their buffers hold the most of. `fits` is false once a record is not as its row allows.
+pub struct Setup {
     pub settings: Settings,
     pub cache: u16,
     pub point: bool,
     pub key: u8,
     pub mic: u8,
     pub room: u16,
-    pub counted: u64,
-    pub place: u64,
-    pub going: Going,
+    pub fits: bool,
 }
 
 // Before the first record.
-pub fn start() -> State {
+pub fn start() -> Setup {
     let settings = Settings {
         pmkless: false,
         ciphers: 0,
         lifetime: Seconds(0),
         deadline: Tu(0),
     };
-    State {
-        table: platform::empty(),
+    Setup {
         settings: settings,
         cache: 0,
         point: false,
         key: 0,
         mic: 0,
         room: 148,
-        counted: 0,
-        place: 0,
-        going: Going::On,
+        fits: true,
     }
 }
 
-// The record at hand is not as its row allows.
-pub fn refuse(s: State) -> State {
-    State {
-        going: Going::Bad,
-        ..s
-    }
+pub fn that_fits(s: Setup, fits: bool) -> Setup {
+    Setup { fits: fits, ..s }
 }
 
-pub fn set_settings(s: State, value: &[u8]) -> State {
+fn refuse(s: Setup) -> Setup {
+    that_fits(s, false)
+}
+
+fn set_settings(s: Setup, value: &[u8]) -> Setup {
     if value.len() != 10 {
         return refuse(s);
     }
@@ -74,56 +61,56 @@ pub fn set_settings(s: State, value: &[u8]) -> State {
         lifetime: Seconds(octets::le4(value, 2)),
         deadline: Tu(octets::le4(value, 6) as u64),
     };
-    State {
+    Setup {
         settings: settings,
         ..s
     }
 }
 
-pub fn set_cache(s: State, value: &[u8], cache: &mut [u8; ANY]) -> State {
+fn set_cache(s: Setup, value: &[u8], cache: &mut [u8; ANY]) -> Setup {
     if value.len() > LONGEST_CACHE {
         return refuse(s);
     }
     octets::copy_in(cache, value);
-    State {
+    Setup {
         cache: value.len() as u16,
         ..s
     }
 }
 
-pub fn set_point(s: State, value: &[u8]) -> State {
+fn set_point(s: Setup, value: &[u8]) -> Setup {
     if value.len() != 1 {
         return refuse(s);
     }
-    State {
+    Setup {
         point: value[0] != 0,
         ..s
     }
 }
 
-pub fn set_own_key(s: State, value: &[u8], key: &mut [u8; LONGEST_LENT]) -> State {
+fn set_own_key(s: Setup, value: &[u8], key: &mut [u8; LONGEST_LENT]) -> Setup {
     if value.len() > LONGEST_LENT {
         return refuse(s);
     }
     octets::copy_in(key, value);
-    State {
+    Setup {
         key: value.len() as u8,
         ..s
     }
 }
 
-pub fn set_lent_mic(s: State, value: &[u8], mic: &mut [u8; LONGEST_LENT]) -> State {
+fn set_lent_mic(s: Setup, value: &[u8], mic: &mut [u8; LONGEST_LENT]) -> Setup {
     if value.len() > LONGEST_LENT {
         return refuse(s);
     }
     octets::copy_in(mic, value);
-    State {
+    Setup {
         mic: value.len() as u8,
         ..s
     }
 }
 
-pub fn set_room(s: State, value: &[u8]) -> State {
+fn set_room(s: Setup, value: &[u8]) -> Setup {
     if value.len() != 2 {
         return refuse(s);
     }
@@ -131,5 +118,24 @@ pub fn set_room(s: State, value: &[u8]) -> State {
     if room > LONGEST_BUFFER {
         return refuse(s);
     }
-    State { room: room, ..s }
+    Setup { room: room, ..s }
+}
+
+pub fn change(
+    s: Setup,
+    tag: u8,
+    value: &[u8],
+    cache: &mut [u8; ANY],
+    key: &mut [u8; LONGEST_LENT],
+    mic: &mut [u8; LONGEST_LENT],
+) -> Setup {
+    match tag {
+        1 => set_settings(s, value),
+        2 => set_cache(s, value, cache),
+        3 => set_point(s, value),
+        4 => set_own_key(s, value, key),
+        5 => set_lent_mic(s, value, mic),
+        6 => set_room(s, value),
+        _ => refuse(s),
+    }
 }

@@ -4,3 +4,4 @@ pub mod Walk
 pub mod Scanning
 pub mod Unread
 pub mod Written
+pub mod ByHand

@@ -61,7 +61,7 @@ pub enum Step {
     Failed,
 }
 
-pub fn step_at(s: &[u8], at: usize) -> Step
+fn step_in(s: &[u8], at: usize) -> Step
     ensures { λ r. ⌜ r ≡ stepAt (now (s .entry)) at ⌝ }
 {
     if s.len() <= at {
@@ -97,6 +97,43 @@ pub fn step_at(s: &[u8], at: usize) -> Step
         length: length,
         next: start + length,
     })
+}
+
+// What walks a frame: the body, and a place in it.
+pub struct Reader<'a> {
+    pub body: &'a [u8],
+    pub at: usize,
+}
+
+impl<'a> Reader<'a> {
+    // In front of the elements.
+    pub fn new(body: &'a [u8]) -> Reader<'a>
+        ensures { λ r. ⌜ (r .body ≡ body .entry) × (r .at ≡ 6) ⌝ }
+    {
+        Reader { body, at: HEADER }
+    }
+
+    pub fn moved(self, at: usize) -> Reader<'a>
+        ensures { λ r. ⌜ (r .body ≡ self .entry .body) × (r .at ≡ at) ⌝ }
+    {
+        Reader {
+            body: self.body,
+            at,
+        }
+    }
+
+    pub fn step(self) -> Step
+        ensures { λ r. ⌜ r ≡ stepAt (now (self .entry .body)) (self .entry .at) ⌝ }
+    {
+        step_in(self.body, self.at)
+    }
+}
+
+// What a reader meets at a place: every walk goes by this.
+pub fn step_at(body: &[u8], at: usize) -> Step
+    ensures { λ r. ⌜ r ≡ stepAt (now (body .entry)) at ⌝ }
+{
+    Reader::new(body).moved(at).step()
 }
 
 // The elements that the rules speak of; all others are skipped.

@@ -122,6 +122,7 @@ impl<'a> Reader<'a> {
         }
     }
 
+    // What the reader meets at its place.
     pub fn step(self) -> Step
         ensures { λ r. ⌜ r ≡ stepAt (now (self .entry .body)) (self .entry .at) ⌝ }
     {
@@ -129,7 +130,7 @@ impl<'a> Reader<'a> {
     }
 }
 
-// What a reader meets at a place: every walk goes by this.
+// Every walk goes by this: what a reader of the body meets at a place.
 pub fn step_at(body: &[u8], at: usize) -> Step
     ensures { λ r. ⌜ r ≡ stepAt (now (body .entry)) at ⌝ }
 {

@@ -1,7 +1,7 @@
 -- Laws of `count`, `every` and `first`.
 use Prim.Native.Nat.{ℕ, zero, suc, _+_, _≤_, _<_}
 use mathlib.Core.Path.{_≡_, refl, sym, ap, _∙_}
-use mathlib.Core.Bool.{Bool, true, false, _&&_, not, false≢true}
+use mathlib.Core.Bool.{Bool, true, false, _&&_, false≢true}
 use mathlib.Core.List.{List, [], _∷_}
 use mathlib.Core.Option.{none, some, Option·some-injective, Option·none-ne-some, Option·some-ne-none}
 use native.Mathlib.Omega.{arith}
@@ -9,7 +9,7 @@ use lib.ListN.{length, replicate}
 use Rattle.octets.specs.Choice.{if_then_else_}
 use Rattle.octets.specs.Search.{first, every}
 use Rattle.octets.proofs.Logic.{both}
-use Rattle.peers.specs.View.{count, absent}
+use Rattle.peers.specs.View.{count}
 
 module _ {A : Type 0} (f : A → Bool) where
   pub count-le : (xs : List A) → count f xs ≤ length xs
@@ -49,17 +49,6 @@ module _ {A : Type 0} (f : A → Bool) where
       go : (every f xs ≡ false → count f xs < length xs) → (b : Bool) → b && every f xs ≡ false → (if b then 1 else 0) + count f xs < suc (length xs)
       go ih true e = omega (arith, ih e)
       go ih false e = omega (arith, count-le xs)
-
-  -- every one passes exactly if a search for one that does not finds none
-  pub every-first : (xs : List A) → every f xs ≡ absent (first (λ x. not (f x)) xs)
-  unfolding first
-  every-first [] = refl
-  every-first (x ∷ xs) = go (f x) (every-first xs)
-    where
-      go : (b : Bool) → every f xs ≡ absent (first (λ x. not (f x)) xs)
-          → b && every f xs ≡ absent (if not b then some x else first (λ x. not (f x)) xs)
-      go true ih = ih
-      go false ih = refl
 
   -- where every one passes, a search for what does not pass finds none
   pub first-none : (g : A → Bool) → ((x : A) → f x ≡ true → g x ≡ false) → (xs : List A) → every f xs ≡ true → first g xs ≡ none

@@ -4,7 +4,6 @@ use mathlib.Core.Path.{_≡_, refl, sym, ap, ap₂, _∙_}
 use mathlib.Core.Bool.{Bool, true, false, _&&_, not, and-false, false≢true}
 use mathlib.Core.List.{List, [], _∷_}
 use mathlib.Core.Logic.{_⊎_, inl, inr}
-use mathlib.Core.Option.{Option}
 use native.Mathlib.Omega.{arith}
 use lib.Dec.{eqb}
 use lib.ListN.{length, replicate}
@@ -16,7 +15,7 @@ use Rattle.peers.specs.declared.Peer.{Peer}
 use Rattle.peers.specs.declared.Table.{Table}
 use Rattle.peers.specs.View.{live, isOf, own, other, count, shows, others, absent, full, vacantPeer}
 use Rattle.peers.specs.Promises.{Nobody, Puts, Drops}
-use Rattle.peers.proofs.Counting.{count-all, count-fewer, every-first, first-none, first-repeated, count-repeated}
+use Rattle.peers.proofs.Counting.{count-all, count-fewer, first-none, first-repeated, count-repeated}
 use Rattle.peers.proofs.Filling.{fill, fill-none}
 use Rattle.peers.proofs.Showing.{dead-later, vacant-own, vacant-other, fill-shows, clear-shows, fill-counts, clear-counts}
 
@@ -65,7 +64,7 @@ module _ (n : Tu) (a : List ℕ) where
 
   module _ (t : Table) (l : length (t .peers) ≡ 16) where
     -- A table of sixteen places is full if each is taken.
-    full-taken : full t n a ≡ every taken (t .peers)
+    pub full-taken : full t n a ≡ every taken (t .peers)
     unfolding full shows others
     full-taken = go (every taken (t .peers)) refl
       where
@@ -76,10 +75,6 @@ module _ (n : Tu) (a : List ℕ) where
         go true e = rw (first-none taken (own n a) misses (t .peers) e, eq-eqb (count taken (t .peers)) 16 (count-all taken (t .peers) e ∙ l))
         go false e =
             rw (ne-eqb (count taken (t .peers)) 16 (λ k. omega (arith, count-fewer taken (t .peers) e))) (and-false (absent (first (own n a) (t .peers))))
-
-    -- so it is full if a search for a place that is not taken finds none
-    pub full-found : {o : Option Peer} → first (λ q. not (taken q)) (t .peers) ≡ o → absent o ≡ full t n a
-    full-found e = sym (full-taken ∙ every-first taken (t .peers) ∙ ap absent e)
 
 module _ (t : Table) (l : length (t .peers) ≡ 16) (p : Peer) (n : Tu) where
   abbrev keep : Peer → Bool

@@ -1,7 +1,7 @@
 -- What the operations on a table promise, by what the tables show.
 use Prim.Native.Nat.{ℕ, _+_, _<_, _≤_}
 use mathlib.Core.Path.{_≡_}
-use mathlib.Core.Bool.{true, false}
+use mathlib.Core.Bool.{Bool, true, false}
 use mathlib.Core.List.{List, _∷_}
 use mathlib.Core.Option.{Option, none, some}
 use lib.ListN.{getD}
@@ -11,7 +11,7 @@ use Rattle.units.specs.declared.Tu.{Tu}
 use Rattle.peers.specs.declared.Peer.{Peer}
 use Rattle.peers.specs.declared.Table.{Table}
 use Rattle.peers.specs.declared.Found.{Found}
-use Rattle.peers.specs.declared.Found.the-variants.{At, Nothing}
+use Rattle.peers.specs.declared.Found.the-variants.{At, Free, Full}
 use Rattle.peers.specs.View.{live, isOf, other, shows, others, full, noPeer}
 
 -- no record, latest reading 0
@@ -25,9 +25,15 @@ pub record FoundAt (t : Table) (a : List ℕ) (n : Tu) (i : ℕ) : Type 0 where
   pub place : i < 16
   pub shown : shows t n a ≡ some (getD (t .peers) i noPeer)
 
+-- no record is shown, and the table is full or not, as told
+pub record Missing (t : Table) (a : List ℕ) (n : Tu) (told : Bool) : Type 0 where
+  pub nobody : shows t n a ≡ none
+  pub filled : full t n a ≡ told
+
 abbrev pub Finds : Table → List ℕ → Tu → Found → Type 0
 Finds t a n (At i) = FoundAt t a n i
-Finds t a n Nothing = shows t n a ≡ none
+Finds t a n Free = Missing t a n false
+Finds t a n Full = Missing t a n true
 
 -- a record, while it is live
 abbrev pub whileLive : Peer → Tu → Option Peer

@@ -3,7 +3,7 @@ use units::Seconds;
 use units::Tu;
 ghost use mathlib.Core.Path.{_≡_};
 ghost use mathlib.Core.List.{[], _∷_};
-ghost use Rattle.peers.specs.View.{live, isOf, own, other, full, vacantPeer};
+ghost use Rattle.peers.specs.View.{live, isOf, other, vacantPeer};
 ghost use Rattle.peers.specs.Promises.{Nobody, Finds, Puts, Drops};
 
 // A handshake that waits for its third frame until a deadline, or a key that is installed until its end.
@@ -29,10 +29,12 @@ pub struct Table {
     pub latest: Tu,
 }
 
-// The place of a record, which only indexes the table that was searched.
+// What a search finds of an address: the place of its live record, which only indexes the table that was searched;
+// or no live record, with room for one, or with sixteen of others.
 pub enum Found {
     At(usize),
-    Nothing,
+    Free,
+    Full,
 }
 
 fn is_live(p: Peer, at: Tu) -> bool
@@ -49,16 +51,6 @@ fn is_of(p: Peer, address: [u8; 6]) -> bool
     ensures { λ r. ⌜ r ≡ isOf p address ⌝ }
 {
     octets::same(&p.address, &address)
-}
-
-// Whether p is a live record of the address.
-fn is_own(p: Peer, address: [u8; 6], at: Tu) -> bool
-    ensures { λ r. ⌜ r ≡ own at address p ⌝ }
-{
-    if is_of(p, address) {
-        return is_live(p, at);
-    }
-    false
 }
 
 // Whether p is a live record of another address.
@@ -96,30 +88,25 @@ pub fn empty() -> Table
     }
 }
 
-// The place of the record that is shown for the address.
+// One pass: the place of the record that is shown for the address, or whether a place is free.
 pub fn find(t: Table, address: [u8; 6], reading: Tu) -> Found
     ensures { λ r. ⌜ Finds t address reading r ⌝ }
 {
+    let mut free = false;
     for i in 0..16 {
         let p = t.peers[i];
-        if is_own(p, address, reading) {
-            return Found::At(i);
+        if is_live(p, reading) {
+            if is_of(p, address) {
+                return Found::At(i);
+            }
+        } else {
+            free = true;
         }
     }
-    Found::Nothing
-}
-
-// Whether there are sixteen live records, all of other addresses.
-pub fn is_full(t: Table, address: [u8; 6], reading: Tu) -> bool
-    ensures { λ r. ⌜ r ≡ full t reading address ⌝ }
-{
-    for i in 0..16 {
-        let p = t.peers[i];
-        if !is_other(p, address, reading) {
-            return false;
-        }
+    if free {
+        return Found::Free;
     }
-    true
+    Found::Full
 }
 
 // Stores p in the first place without a live record of another address, and clears the further ones. A full table stays as it is.

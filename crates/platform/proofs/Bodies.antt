@@ -1,28 +1,33 @@
--- What a body gets, by what is known of its header.
-use mathlib.Core.Path.{_≡_, refl, sym, ap, _∙_}
-use mathlib.Core.Bool.{Bool}
+-- What a body gets, by what is known of its header and of its peer.
+use mathlib.Core.Path.{_≡_, refl, sym, ap, subst, _∙_}
+use mathlib.Core.Bool.{Bool, true, false, not, false≢true, true≢false}
 use mathlib.Core.List.{List, []}
 use mathlib.Core.Option.{Option, none, some}
 use Prim.Native.Nat.{ℕ}
-use lib.Dec.{eqb}
 use borrow.Author.Tests.{eq-eqb, ne-eqb}
-use Rattle.octets.specs.Choice.{if_then_else_}
+use Rattle.octets.specs.Wrote.{Wrote}
+use Rattle.octets.proofs.Parts.{wrote-none}
 use Rattle.elements.specs.declared.Header.{Header}
 use Rattle.elements.specs.declared.Opened.{Opened}
-use Rattle.suites.specs.declared.AkmEntry.{AkmEntry}
-use Rattle.suites.specs.Tables.{akmOf}
-use Rattle.frames.specs.declared.third.Third.{Third}
-use Rattle.frames.specs.Third.{thirdOf}
 use Rattle.peers.specs.declared.Peer.{Peer}
 use Rattle.peers.specs.declared.Phase.{Phase}
 use Rattle.peers.specs.declared.Phase.the-variants.{Waiting, Installed}
 use Rattle.rules.specs.declared.Answer.{Answer}
-use Rattle.rules.specs.declared.Brought.{Brought}
 use Rattle.rules.specs.declared.Leaves.{Leaves}
 use Rattle.rules.specs.declared.Verdict.{Verdict}
-use Rattle.rules.specs.OnePeer.{Call, Outcome, gone, unchanged, withoutWaiting, firstFrame, thirdMic, thirdAkm, thirdOn, thirdFrame, byTransaction, onBody}
-use Rattle.rules.specs.Told.{leftOf, Only, Decides, thirdCall}
-use Rattle.platform.specs.Promises.{callOf}
+use Rattle.rules.specs.OnePeer.{Call, Outcome, unchanged, withoutWaiting, steps, firstOn, firstFrame, thirdFrame, byTransaction, onBody}
+use Rattle.rules.specs.Told.{leftOf, Only, Gets, Decides, firstFor}
+use Rattle.platform.specs.Promises.{isWaiting}
+use Rattle.platform.specs.Inside.{isInstalled}
+use Rattle.platform.proofs.Calls.{broughtOf, firstCall}
+
+-- a verdict that writes nothing leaves the buffer as it was
+pub decides-gets : {o : Outcome} {own : Option Peer} {r : Verdict} (d : List ℕ) → Decides o own r → Gets o own d d r
+decides-gets {o} {own} {r} d v = record {
+  answer = v .answer;
+  wrote = subst (λ (n : ℕ). Wrote (o .reply) n d d) (sym (v .told)) (subst (λ (l : List ℕ). Wrote l 0 d d) (sym (v .silent)) (wrote-none d));
+  leaves = v .leaves;
+}
 
 -- a verdict after which a waiting record goes
 pub leaves-waiting : {answer : Answer} {r : Verdict} (own : Option Peer) → Only answer Leaves.WaitingGoes r
@@ -57,24 +62,23 @@ module _ (call : Call) (full : Bool) (own : Option Peer) {o : Opened} where
         pub body-neither : (header .transaction ≡ 3 → ⊥) → unchanged Answer.Transaction ≡ onBody call o full own
         body-neither h = sym (by-header ∙ rw (eq-eqb (header .algorithm) 7 a, ne-eqb (header .transaction) 1 k, ne-eqb (header .transaction) 3 h))
 
--- a third frame looks at the reading, the lent MIC and the body alone
-module _ (brought : Brought) (file key mic body : List ℕ) (room : ℕ) where
-  mic-same : (p : Peer) (third : Third) → thirdMic (thirdCall (brought .reading) mic body) p third ≡ thirdMic (callOf brought file key mic body room) p third
-  mic-same p (Third.Mic part) = refl
-  mic-same p Third.Ill = refl
+-- a first frame, of a peer with an installed record or of any other
+module _ (call : Call) (algorithm : ℕ) (full : Bool) where
+  pub first-installed : (own : Option Peer) → isInstalled own ≡ true → unchanged Answer.PeerInstalled ≡ firstFrame call algorithm full own
+  first-installed none h = absurd (false≢true h)
+  first-installed (some p) h = go (p .phase) h
+    where
+      go : (phase : Phase) → not (isWaiting phase) ≡ true → unchanged Answer.PeerInstalled ≡ firstOn call algorithm full (some p) phase
+      go (Waiting deadline) h = absurd (false≢true h)
+      go (Installed end) h = refl
 
-  akm-same : (p : Peer) (entry : AkmEntry)
-      → thirdAkm (thirdCall (brought .reading) mic body) p entry ≡ thirdAkm (callOf brought file key mic body room) p entry
-  akm-same p (AkmEntry.In akm) = mic-same p (thirdOf body (akm .mic))
-  akm-same p AkmEntry.NotInTable = refl
-
-  on-same : (status : ℕ) (p : Peer) (phase : Phase)
-      → thirdOn (thirdCall (brought .reading) mic body) status p phase ≡ thirdOn (callOf brought file key mic body room) status p phase
-  on-same status p (Waiting deadline) =
-      ap (λ (o : Outcome). if eqb status 0 then o else record { answer = Answer.StatusNotZero; reply = []; leaves = gone }) (akm-same p (akmOf (p .akm)))
-  on-same status p (Installed end) = refl
-
-  pub third-same : (status : ℕ) (own : Option Peer)
-      → thirdFrame (thirdCall (brought .reading) mic body) status own ≡ thirdFrame (callOf brought file key mic body room) status own
-  third-same status none = refl
-  third-same status (some p) = on-same status p (p .phase)
+  pub first-open : (own : Option Peer) → isInstalled own ≡ false
+      → firstFor (broughtOf call) (call .cache) (call .key) (call .body) algorithm full own ≡ firstFrame (firstCall call) algorithm full own
+  unfolding steps
+  first-open none h = refl
+  first-open (some p) h = go (p .phase) h
+    where
+      go : (phase : Phase) → not (isWaiting phase) ≡ false
+          → firstFor (broughtOf call) (call .cache) (call .key) (call .body) algorithm full (some p) ≡ firstOn (firstCall call) algorithm full (some p) phase
+      go (Waiting deadline) h = refl
+      go (Installed end) h = absurd (true≢false h)

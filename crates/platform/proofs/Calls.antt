@@ -1,58 +1,65 @@
 -- What a frame gets does not depend on what its rules do not look at.
-use mathlib.Core.Path.{_≡_, refl, sym, ap, subst, _∙_}
-use mathlib.Core.Bool.{Bool, false}
-use mathlib.Core.List.{List, []}
+use mathlib.Core.Path.{_≡_, refl, ap}
+use mathlib.Core.Bool.{Bool}
+use mathlib.Core.List.{[]}
 use mathlib.Core.Option.{Option, none, some}
 use Prim.Native.Nat.{ℕ}
-use Rattle.octets.specs.Wrote.{Wrote}
-use Rattle.octets.proofs.Parts.{wrote-none}
-use Rattle.units.specs.declared.Tu.{Tu}
+use lib.Dec.{eqb}
+use Rattle.octets.specs.Choice.{if_then_else_}
+use Rattle.suites.specs.declared.AkmEntry.{AkmEntry}
+use Rattle.suites.specs.Tables.{akmOf}
+use Rattle.frames.specs.declared.third.Third.{Third}
+use Rattle.frames.specs.Third.{thirdOf}
 use Rattle.peers.specs.declared.Peer.{Peer}
 use Rattle.peers.specs.declared.Phase.{Phase}
 use Rattle.peers.specs.declared.Phase.the-variants.{Waiting, Installed}
 use Rattle.rules.specs.declared.Answer.{Answer}
 use Rattle.rules.specs.declared.Brought.{Brought}
-use Rattle.rules.specs.declared.Verdict.{Verdict}
-use Rattle.rules.specs.OnePeer.{Call, Outcome, unchanged, Step, refuse, pass, Passed, steps, firstOutcome, firstOn, firstFrame}
-use Rattle.rules.specs.Told.{Gets, Decides, firstFor}
+use Rattle.rules.specs.OnePeer.{Call, Outcome, gone, Step, refuse, pass, Passed, steps, firstOutcome, firstOn, firstFrame, thirdMic, thirdAkm, thirdOn, thirdFrame}
+use Rattle.rules.specs.Told.{thirdCall}
 use Rattle.platform.specs.Promises.{callOf}
 
--- a verdict that writes nothing leaves the buffer as it was
-pub decides-gets : {o : Outcome} {own : Option Peer} {r : Verdict} (d : List ℕ) → Decides o own r → Gets o own d d r
-decides-gets {o} {own} {r} d v = record {
-  answer = v .answer;
-  wrote = subst (λ (n : ℕ). Wrote (o .reply) n d d) (sym (v .told)) (subst (λ (l : List ℕ). Wrote l 0 d d) (sym (v .silent)) (wrote-none d));
-  leaves = v .leaves;
-}
+-- what a call brings beside its strings of octets
+abbrev pub broughtOf : Call → Brought
+broughtOf call = record { settings = call .settings; reading = call .reading; address = call .address; point = call .point }
 
-module _ (brought : Brought) (file key mic body : List ℕ) (room : ℕ) (algorithm : ℕ) where
-  outcome-same : (own : Option Peer) (s : Step Passed)
-      → firstOutcome (callOf brought file key [] body 0) algorithm own s ≡ firstOutcome (callOf brought file key mic body room) algorithm own s
-  outcome-same own (refuse status) = refl
-  outcome-same own (pass passed) = refl
+-- what a first frame's rules look at: neither the lent MIC nor the buffer's length
+abbrev pub firstCall : Call → Call
+firstCall call = callOf (broughtOf call) (call .cache) (call .key) [] (call .body) 0
 
-  first-same : (full : Bool) (own : Option Peer)
-      → firstFor brought file key body algorithm full own
-      ≡ firstOutcome (callOf brought file key mic body room) algorithm own (steps (callOf brought file key mic body room) full)
-  unfolding steps
-  first-same full own = outcome-same own (steps (callOf brought file key mic body room) full)
+module _ (call : Call) where
+  module _ (algorithm : ℕ) (full : Bool) where
+    outcome-same : (own : Option Peer) (s : Step Passed) → firstOutcome (firstCall call) algorithm own s ≡ firstOutcome call algorithm own s
+    outcome-same own (refuse status) = refl
+    outcome-same own (pass passed) = refl
 
-  module _ (own : Option Peer) {full full' : Bool} (f : full' ≡ full) where
-    with-full : firstFor brought file key body algorithm full' own
-        ≡ firstOutcome (callOf brought file key mic body room) algorithm own (steps (callOf brought file key mic body room) full)
-    with-full = ap (λ (b : Bool). firstFor brought file key body algorithm b own) f ∙ first-same full own
+    first-on : (own : Option Peer) (phase : Phase) → firstOn (firstCall call) algorithm full own phase ≡ firstOn call algorithm full own phase
+    unfolding steps
+    first-on own (Waiting deadline) = outcome-same own (steps call full)
+    first-on own (Installed end) = refl
 
-    pub first-unknown : own ≡ none → firstFor brought file key body algorithm full' own ≡ firstFrame (callOf brought file key mic body room) algorithm full own
-    first-unknown e = with-full
-        ∙ ap (λ (o : Option Peer). firstOutcome (callOf brought file key mic body room) algorithm o (steps (callOf brought file key mic body room) full)) e
-        ∙ sym (ap (firstFrame (callOf brought file key mic body room) algorithm full) e)
+    pub first-same : (own : Option Peer) → firstFrame (firstCall call) algorithm full own ≡ firstFrame call algorithm full own
+    unfolding steps
+    first-same none = outcome-same none (steps call full)
+    first-same (some p) = first-on (some p) (p .phase)
 
-    pub first-waiting : {p : Peer} {deadline : Tu} → own ≡ some p → p .phase ≡ Waiting deadline
-        → firstFor brought file key body algorithm full' own ≡ firstFrame (callOf brought file key mic body room) algorithm full own
-    first-waiting {p} e h = with-full
-        ∙ ap (λ (o : Option Peer). firstOutcome (callOf brought file key mic body room) algorithm o (steps (callOf brought file key mic body room) full)) e
-        ∙ sym (ap (firstFrame (callOf brought file key mic body room) algorithm full) e ∙ ap (firstOn (callOf brought file key mic body room) algorithm full (some p)) h)
+  -- a third frame's look at the reading, the lent MIC and the body alone
+  abbrev least : Call
+  least = thirdCall (call .reading) (call .mic) (call .body)
 
-pub first-installed : (call : Call) (algorithm : ℕ) (full : Bool) {own : Option Peer} {p : Peer} {end : Tu} → own ≡ some p → p .phase ≡ Installed end
-    → unchanged Answer.PeerInstalled ≡ firstFrame call algorithm full own
-first-installed call algorithm full {p = p} e h = sym (ap (firstFrame call algorithm full) e ∙ ap (firstOn call algorithm full (some p)) h)
+  by-mic : (p : Peer) (third : Third) → thirdMic least p third ≡ thirdMic call p third
+  by-mic p (Third.Mic part) = refl
+  by-mic p Third.Ill = refl
+
+  by-akm : (p : Peer) (entry : AkmEntry) → thirdAkm least p entry ≡ thirdAkm call p entry
+  by-akm p (AkmEntry.In akm) = by-mic p (thirdOf (call .body) (akm .mic))
+  by-akm p AkmEntry.NotInTable = refl
+
+  third-on : (status : ℕ) (p : Peer) (phase : Phase) → thirdOn least status p phase ≡ thirdOn call status p phase
+  third-on status p (Waiting deadline) =
+      ap (λ (o : Outcome). if eqb status 0 then o else record { answer = Answer.StatusNotZero; reply = []; leaves = gone }) (by-akm p (akmOf (p .akm)))
+  third-on status p (Installed end) = refl
+
+  pub third-same : (status : ℕ) (own : Option Peer) → thirdFrame least status own ≡ thirdFrame call status own
+  third-same status none = refl
+  third-same status (some p) = third-on status p (p .phase)

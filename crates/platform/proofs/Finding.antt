@@ -1,18 +1,53 @@
 -- What a search's answer says, once it is taken apart.
-use mathlib.Core.Path.{_≡_, subst}
+use mathlib.Core.Path.{_≡_, refl, ap, subst, _∙_}
 use mathlib.Core.List.{List}
-use mathlib.Core.Option.{none}
+use mathlib.Core.Logic.{_⊎_, ⊎-elim}
+use mathlib.Core.Option.{none, some}
 use Prim.Native.Nat.{ℕ}
+use native.Mathlib.Omega.{arith}
+use denote.Enum.Declared.{tagOf}
+use lib.ListN.{getD}
 use Rattle.units.specs.declared.Tu.{Tu}
 use Rattle.peers.specs.declared.Found.{Found}
-use Rattle.peers.specs.declared.Found.the-variants.{At, Nothing}
+use Rattle.peers.specs.declared.Found.the-variants.{At, Free, Full}
+use Rattle.peers.specs.declared.Peer.{Peer}
 use Rattle.peers.specs.declared.Table.{Table}
 use Rattle.peers.specs.Promises.{Finds, FoundAt}
-use Rattle.peers.specs.View.{shows}
+use Rattle.peers.specs.View.{shows, full, noPeer}
+use Rattle.peers.proofs.Found as Found'
+use Rattle.peers.proofs.Laws.{full-shown}
+use Rattle.platform.specs.Inside.{seen, isFull}
 
-module _ (t : Table) (a : List ℕ) (n : Tu) {found : Found} (f : Finds t a n found) where
-  pub found-at : {i : ℕ} → found ≡ At i → FoundAt t a n i
-  found-at e = subst (Finds t a n) e f
+-- where the code goes on without a place
+abbrev pub Nowhere : Found → Type 0
+Nowhere found = (tagOf Found'.the-type found ≡ 1) ⊎ (tagOf Found'.the-type found ≡ 2)
 
-  pub found-none : found ≡ Nothing → shows t n a ≡ none
-  found-none e = subst (Finds t a n) e f
+nowhere : (P : Found → Type 0) → P Free → P Full → (found : Found) → Nowhere found → P found
+nowhere P x y (At i) h = absurd (⊎-elim (λ e. omega arith) (λ e. omega arith) h)
+nowhere P x y Free h = x
+nowhere P x y Full h = y
+
+pub seen-none : (found : Found) (peer : Peer) → Nowhere found → seen found peer ≡ none
+seen-none found peer h = nowhere (λ f. seen f peer ≡ none) refl refl found h
+
+pub seen-at : {found : Found} {i : ℕ} (peer : Peer) → found ≡ At i → seen found peer ≡ some peer
+seen-at peer e = ap (λ (f : Found). seen f peer) e
+
+-- what was seen of an address is what the table shows of it
+pub record Sees (t : Table) (a : List ℕ) (n : Tu) (found : Found) (peer : Peer) : Type 0 where
+  pub shown : shows t n a ≡ seen found peer
+  pub filled : full t n a ≡ isFull found
+
+module _ (t : Table) (a : List ℕ) (n : Tu) where
+  pub found-at : {found : Found} {i : ℕ} → Finds t a n found → found ≡ At i → FoundAt t a n i
+  found-at f e = subst (Finds t a n) e f
+
+  pub sees-at : {i : ℕ} → FoundAt t a n i → Sees t a n (At i) (getD (t .peers) i noPeer)
+  sees-at there = record { shown = there .shown; filled = full-shown t n a (there .shown) }
+
+  pub sees-none : (found : Found) (peer : Peer) → Finds t a n found → Nowhere found → Sees t a n found peer
+  sees-none found peer f h =
+      nowhere (λ g. Finds t a n g → Sees t a n g peer) (λ m. record { shown = m .nobody; filled = m .filled }) (λ m. record { shown = m .nobody; filled = m .filled }) found h f
+
+  pub found-none : (found : Found) → Finds t a n found → Nowhere found → shows t n a ≡ none
+  found-none found f h = sees-none found noPeer f h .shown ∙ seen-none found noPeer h

@@ -1,32 +1,36 @@
 -- A receive, by its checks and by what its body gets.
-use mathlib.Core.Path.{_≡_, refl, sym, ap, subst, _∙_}
-use mathlib.Core.Bool.{Bool, true, false, _&&_, not, true≢false}
+use mathlib.Core.Path.{_≡_, refl, sym, subst, _∙_}
+use mathlib.Core.Bool.{Bool, true, false, _&&_, not}
 use mathlib.Core.List.{List}
 use mathlib.Core.Option.{Option}
 use Prim.Native.Nat.{ℕ, _^_}
 use lib.Dec.{ltb, leb}
 use borrow.Author.Tests.{leb-true, ltb-false}
 use Rattle.octets.specs.Choice.{if_then_else_}
-use Rattle.octets.specs.Wrote.{Wrote}
 use Rattle.octets.proofs.Logic.{both}
 use Rattle.octets.proofs.Parts.{wrote-none}
 use Rattle.units.specs.declared.Tu.{Tu}
 use Rattle.units.specs.Units.{inClock}
 use Rattle.elements.specs.Body.{bodyOf}
 use Rattle.cache.specs.File.{isWellFormed}
+use Rattle.peers.specs.declared.Found.{Found}
+use Rattle.peers.specs.declared.Found.the-variants.{At, Free, Full}
 use Rattle.peers.specs.declared.Peer.{Peer}
 use Rattle.peers.specs.declared.Table.{Table}
-use Rattle.peers.specs.View.{shows, full}
+use Rattle.peers.specs.View.{full}
+use Rattle.peers.proofs.Laws.{shown-is}
 use Rattle.rules.specs.declared.Answer.{Answer}
 use Rattle.rules.specs.declared.Brought.{Brought}
 use Rattle.rules.specs.declared.Verdict.{Verdict}
-use Rattle.rules.specs.OnePeer.{Call, numberOf, Outcome, unchanged, clockFits, settingsFit, isGroupAddress, steps, onBody, receiveOf}
-use Rattle.rules.specs.Told.{Ready, Gets, leftOf}
+use Rattle.rules.specs.OnePeer.{Call, numberOf, Outcome, unchanged, clockFits, settingsFit, isGroupAddress, onBody, receiveOf}
+use Rattle.rules.specs.Told.{Ready, Gets}
 use Rattle.platform.specs.declared.Checked.{Checked}
-use Rattle.platform.specs.declared.Received.{Received}
-use Rattle.platform.specs.Promises.{checkedOf, callOf, isEarly, Settles, Answers}
+use Rattle.platform.specs.Inside.{checkedOf, seen, isFull, leftBy, Seats}
+use Rattle.platform.specs.Promises.{isEarly, Settles, Answers, Receives}
 use Rattle.platform.proofs.Settling.{dates-early, dates-late, settles-none, settles-by}
-use Rattle.platform.proofs.Sound.{Sound}
+use Rattle.platform.proofs.Calls.{broughtOf}
+use Rattle.platform.proofs.Finding.{Sees}
+use Rattle.platform.proofs.Sound.{Sound, Placed, sound}
 
 -- where the checks fail, nothing changes; where they pass, the body decides
 abbrev Comes : Checked → Outcome → Outcome → Type 0
@@ -44,24 +48,21 @@ comes false false false true cache rest = (refl, refl)
 comes false false false false true rest = (refl, refl)
 comes false false false false false rest = refl
 
-module _ (latest : Tu) (brought : Brought) (file key mic body : List ℕ) (room : ℕ) (full : Bool) (own : Option Peer) where
-  by-checks : Comes (checkedOf latest brought file room) (receiveOf latest full own (callOf brought file key mic body room))
-      (onBody (callOf brought file key mic body room) (bodyOf body) full own)
+module _ (latest : Tu) (call : Call) (full : Bool) (own : Option Peer) where
+  by-checks : Comes (checkedOf latest (broughtOf call) (call .cache) (call .room)) (receiveOf latest full own call) (onBody call (bodyOf (call .body)) full own)
   unfolding checkedOf receiveOf
-  by-checks = comes (not (clockFits latest (brought .reading))) (ltb room 148) (not (settingsFit (brought .settings))) (isGroupAddress (brought .address))
-      (not (isWellFormed file)) (onBody (callOf brought file key mic body room) (bodyOf body) full own)
+  by-checks = comes (not (clockFits latest (call .reading))) (ltb (call .room) 148) (not (settingsFit (call .settings))) (isGroupAddress (call .address))
+      (not (isWellFormed (call .cache))) (onBody call (bodyOf (call .body)) full own)
 
-  module _ {checked : Checked} (c : checked ≡ checkedOf latest brought file room) where
-    told : Comes checked (receiveOf latest full own (callOf brought file key mic body room)) (onBody (callOf brought file key mic body room) (bodyOf body) full own)
-    told = subst (λ (k : Checked). Comes k (receiveOf latest full own (callOf brought file key mic body room)) (onBody (callOf brought file key mic body room) (bodyOf body) full own)) (sym c) by-checks
+  module _ {checked : Checked} (c : checked ≡ checkedOf latest (broughtOf call) (call .cache) (call .room)) where
+    told : {k : Checked} → checked ≡ k → Comes k (receiveOf latest full own call) (onBody call (bodyOf (call .body)) full own)
+    told e = subst (λ (k : Checked). Comes k (receiveOf latest full own call) (onBody call (bodyOf (call .body)) full own)) (sym c ∙ e) by-checks
 
-    pub failed : {answer : Answer} → checked ≡ Checked.Failed answer
-        → (receiveOf latest full own (callOf brought file key mic body room) ≡ unchanged answer) × (isEarly (numberOf answer) ≡ true)
-    failed e = subst (λ (k : Checked). Comes k (receiveOf latest full own (callOf brought file key mic body room)) (onBody (callOf brought file key mic body room) (bodyOf body) full own)) e told
+    pub failed : {answer : Answer} → checked ≡ Checked.Failed answer → (receiveOf latest full own call ≡ unchanged answer) × (isEarly (numberOf answer) ≡ true)
+    failed e = told e
 
-    pub passed : checked ≡ Checked.Passed
-        → receiveOf latest full own (callOf brought file key mic body room) ≡ onBody (callOf brought file key mic body room) (bodyOf body) full own
-    passed e = subst (λ (k : Checked). Comes k (receiveOf latest full own (callOf brought file key mic body room)) (onBody (callOf brought file key mic body room) (bodyOf body) full own)) e told
+    pub passed : checked ≡ Checked.Passed → receiveOf latest full own call ≡ onBody call (bodyOf (call .body)) full own
+    passed e = told e
 
 -- what the checks assure
 module _ (latest : Tu) (brought : Brought) (file : List ℕ) (room : ℕ) where
@@ -110,14 +111,30 @@ module _ (t : Table) (call : Call) where
     settles = settles-none t (call .address) (call .reading);
   })
 
-  pub answers-settled : {o o' : Outcome} {own : Option Peer} {before after : List ℕ} {v : Verdict} {r : Table} → o' ≡ o → Sound t (call .reading) call o
-      → Gets o own before after v
-      → Settles t (call .address) (call .reading) (leftOf own (v .leaves) (v .peer)) r × (r .latest ≡ call .reading)
-      → Answers t call o' before after (record { table = r; answer = v .answer; length = v .length })
-  answers-settled {o = o} {before = before} {after = after} {v = v} {r = r} e s g h =
-      subst (λ (x : Outcome). Answers t call x before after (record { table = r; answer = v .answer; length = v .length })) (sym e) (record {
-        answer = g .answer;
-        reply = g .wrote;
-        dates = dates-late t (s .late) (h .1);
-        settles = settles-by t (call .address) (call .reading) (h .0) (g .leaves);
-      })
+-- where the checks pass: by what was seen of this peer
+module _ (t : Table) (call : Call) (found : Found) (peer : Peer) (w : Sees t (call .address) (call .reading) found peer) where
+  placed : Placed call (isFull found) (seen found peer)
+  placed = go found w
+    where
+      go : (f : Found) → Sees t (call .address) (call .reading) f peer → Placed call (isFull f) (seen f peer)
+      go (At i) w = (shown-is t (call .reading) (call .address) (w .shown) .address, refl)
+      go Free w = tt
+      go Full w = tt
+
+  module _ {before after : List ℕ} {v : Verdict} (g : Gets (onBody call (bodyOf (call .body)) (isFull found) (seen found peer)) (seen found peer) before after v) where
+    is-sound : Sound call (isFull found) (onBody call (bodyOf (call .body)) (isFull found) (seen found peer))
+    is-sound = sound call (isFull found) (seen found peer) placed (bodyOf (call .body))
+
+    pub seated : Seats (call .address) (full t (call .reading) (call .address)) (leftBy (seen found peer) v)
+    seated = rw (w .filled, g .leaves) (is-sound .seats)
+
+    pub answers-settled : {r : Table}
+        → receiveOf (t .latest) (isFull found) (seen found peer) call ≡ onBody call (bodyOf (call .body)) (isFull found) (seen found peer)
+        → Settles t (call .address) (call .reading) (leftBy (seen found peer) v) r × (r .latest ≡ call .reading)
+        → Receives t call before after (record { table = r; answer = v .answer; length = v .length })
+    answers-settled e h = rw (w .filled, w .shown, e) (record {
+      answer = g .answer;
+      reply = g .wrote;
+      dates = dates-late t (is-sound .late) (h .1);
+      settles = settles-by t (call .address) (call .reading) (h .0) (g .leaves);
+    })

@@ -1,9 +1,9 @@
 -- What is shown once a verdict is settled.
 use mathlib.Core.Path.{_≡_, refl, sym, ap, subst, _∙_}
-use mathlib.Core.Bool.{Bool, true, false, false≢true, true≢false}
+use mathlib.Core.Bool.{Bool, true, false, true≢false}
 use mathlib.Core.List.{List, _∷_}
 use mathlib.Core.Option.{Option, none, some}
-use Prim.Native.Nat.{ℕ, _+_, _≤_}
+use Prim.Native.Nat.{ℕ, _+_}
 use Rattle.octets.specs.Choice.{if_then_else_}
 use Rattle.octets.specs.Equality.{sameOctets}
 use Rattle.units.specs.declared.Tu.{Tu}
@@ -14,9 +14,11 @@ use Rattle.peers.specs.declared.Table.{Table}
 use Rattle.peers.specs.Promises.{whileLive, Puts, Drops}
 use Rattle.peers.specs.View.{other, shows, others, full}
 use Rattle.rules.specs.declared.Leaves.{Leaves}
+use Rattle.rules.specs.declared.Verdict.{Verdict}
 use Rattle.rules.specs.OnePeer.{Left, same, gone, becomes, waitingGoes, withoutWaiting}
 use Rattle.rules.specs.Told.{leftOf}
-use Rattle.platform.specs.Promises.{Settles, isEarly, Dates, isWaiting, waits}
+use Rattle.platform.specs.Promises.{Settles, isEarly, Dates, isWaiting}
+use Rattle.platform.specs.Inside.{waits, leftBy}
 
 -- a table at another latest reading shows the same
 abbrev pub dated : Table → Tu → Table
@@ -59,32 +61,24 @@ module _ (t : Table) (a : List ℕ) (n : Tu) where
   pub settles-by : {r : Table} {l l' : Left} → Settles t a n l r → l ≡ l' → Settles t a n l' r
   settles-by {r} s e = subst (λ (l : Left). Settles t a n l r) e s
 
-module _ (own : Option Peer) (peer : Peer) {leaves : Leaves} where
-  pub left-same : leaves ≡ Leaves.Same → same ≡ leftOf own leaves peer
-  left-same e = sym (ap (λ (l : Leaves). leftOf own l peer) e)
+-- a waiting record goes, and an installed one stays
+by-phase : (phase : Phase) → waitingGoes phase ≡ (if isWaiting phase then gone else same)
+by-phase (Waiting deadline) = refl
+by-phase (Installed end) = refl
 
-  pub left-becomes : leaves ≡ Leaves.Becomes → becomes peer ≡ leftOf own leaves peer
-  left-becomes e = sym (ap (λ (l : Leaves). leftOf own l peer) e)
+by-record : (own : Option Peer) → withoutWaiting own ≡ (if waits own then gone else same)
+by-record none = refl
+by-record (some p) = by-phase (p .phase)
 
-gone-waiting : (phase : Phase) → isWaiting phase ≡ true → gone ≡ waitingGoes phase
-gone-waiting (Waiting deadline) h = refl
-gone-waiting (Installed end) h = absurd (false≢true h)
+module _ (own : Option Peer) (v : Verdict) where
+  by-leaves : {leaves : Leaves} → v .leaves ≡ leaves → leftBy own v ≡ leftOf own leaves (v .peer)
+  by-leaves e = ap (λ (l : Leaves). leftOf own l (v .peer)) e
 
-kept-installed : (phase : Phase) → isWaiting phase ≡ false → same ≡ waitingGoes phase
-kept-installed (Waiting deadline) h = absurd (true≢false h)
-kept-installed (Installed end) h = refl
+  pub left-same : v .leaves ≡ Leaves.Same → same ≡ leftBy own v
+  left-same e = sym (by-leaves e)
 
-gone-without : (own : Option Peer) → waits own ≡ true → gone ≡ withoutWaiting own
-gone-without none h = absurd (false≢true h)
-gone-without (some p) h = gone-waiting (p .phase) h
+  pub left-goes : {b : Bool} → v .leaves ≡ Leaves.WaitingGoes → waits own ≡ b → (if b then gone else same) ≡ leftBy own v
+  left-goes e w = sym (by-leaves e ∙ by-record own ∙ ap (λ (b : Bool). if b then gone else same) w)
 
-kept-without : (own : Option Peer) → waits own ≡ false → same ≡ withoutWaiting own
-kept-without none h = refl
-kept-without (some p) h = kept-installed (p .phase) h
-
-module _ (own : Option Peer) (peer : Peer) {leaves : Leaves} (e : leaves ≡ Leaves.WaitingGoes) where
-  pub left-gone : waits own ≡ true → gone ≡ leftOf own leaves peer
-  left-gone w = gone-without own w ∙ sym (ap (λ (l : Leaves). leftOf own l peer) e)
-
-  pub left-kept : waits own ≡ false → same ≡ leftOf own leaves peer
-  left-kept w = kept-without own w ∙ sym (ap (λ (l : Leaves). leftOf own l peer) e)
+  pub left-becomes : v .leaves ≡ Leaves.Becomes → becomes (v .peer) ≡ leftBy own v
+  left-becomes e = sym (by-leaves e)

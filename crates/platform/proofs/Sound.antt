@@ -6,7 +6,6 @@ use Prim.Native.Nat.{ℕ}
 use lib.Dec.{eqb}
 use Rattle.octets.specs.Choice.{if_then_else_}
 use Rattle.octets.specs.Equality.{sameOctets}
-use Rattle.units.specs.declared.Tu.{Tu}
 use Rattle.elements.specs.declared.Opened.{Opened}
 use Rattle.suites.specs.declared.AkmEntry.{AkmEntry}
 use Rattle.suites.specs.Tables.{akmOf, isKeyOf}
@@ -16,11 +15,9 @@ use Rattle.frames.specs.Third.{thirdOf}
 use Rattle.peers.specs.declared.Peer.{Peer}
 use Rattle.peers.specs.declared.Phase.{Phase}
 use Rattle.peers.specs.declared.Phase.the-variants.{Waiting, Installed}
-use Rattle.peers.specs.declared.Table.{Table}
-use Rattle.peers.specs.View.{shows, full}
-use Rattle.peers.proofs.Laws.{shown-is, full-shown}
-use Rattle.rules.specs.OnePeer.{Call, numberOf, same, Outcome, waitingGoes, withoutWaiting, Step, refuse, pass, _>>=_, step1, step10, step11, suiteSteps, keySteps, Passed, steps, firstOutcome, firstOn, firstFrame, thirdMic, thirdAkm, thirdOn, thirdFrame, onBody}
-use Rattle.platform.specs.Promises.{Seats, isEarly}
+use Rattle.rules.specs.OnePeer.{Call, numberOf, same, becomes, Outcome, waitingGoes, withoutWaiting, Step, refuse, pass, _>>=_, step1, step10, step11, suiteSteps, keySteps, Passed, steps, firstOutcome, firstOn, firstFrame, thirdMic, thirdAkm, thirdOn, thirdFrame, onBody}
+use Rattle.platform.specs.Inside.{Seats}
+use Rattle.platform.specs.Promises.{isEarly}
 
 -- who passes the eleventh step has room
 abbrev Roomy : Bool → Step Passed → Type 0
@@ -44,44 +41,49 @@ roomy call full =
     roomy-then full (step10 (suites .akm) (call .cache) (call .reading) (content (call .body) (facts .rsne .pmkids))) _ (λ pmkid.
     roomy-last full _))))
 
-module _ (t : Table) (n : Tu) (call : Call) where
+module _ (call : Call) (full : Bool) where
   pub record Sound (o : Outcome) : Type 0 where
-    pub seats : Seats t (call .address) n (o .leaves)
+    pub seats : Seats (call .address) full (o .leaves)
     pub late : isEarly (numberOf (o .answer)) ≡ false
 
   either : (b : Bool) {o p : Outcome} → Sound o → Sound p → Sound (if b then o else p)
   either true s u = s
   either false s u = u
 
-  by-phase : (phase : Phase) → Seats t (call .address) n (waitingGoes phase)
+  by-phase : (phase : Phase) → Seats (call .address) full (waitingGoes phase)
   by-phase (Waiting deadline) = tt
   by-phase (Installed end) = tt
 
-  without : (own : Option Peer) → Seats t (call .address) n (withoutWaiting own)
+  without : (own : Option Peer) → Seats (call .address) full (withoutWaiting own)
   without none = tt
   without (some p) = by-phase (p .phase)
 
-  refused : (full : Bool) (own : Option Peer) → Seats t (call .address) n (if full then same else withoutWaiting own)
+  refused : (status : Bool) (own : Option Peer) → Seats (call .address) full (if status then same else withoutWaiting own)
   refused true own = tt
   refused false own = without own
 
-  first-sound : (algorithm : ℕ) (own : Option Peer) (s : Step Passed) → Roomy (full t n (call .address)) s → Sound (firstOutcome call algorithm own s)
+  first-sound : (algorithm : ℕ) (own : Option Peer) (s : Step Passed) → Roomy full s → Sound (firstOutcome call algorithm own s)
   first-sound algorithm own (refuse status) h = record { seats = refused (eqb status 30) own; late = refl }
   first-sound algorithm own (pass passed) h =
       either (isKeyOf (passed .group) (call .key)) (record { seats = (refl, h); late = refl }) (record { seats = tt; late = refl })
 
-  first-on : (algorithm : ℕ) (own : Option Peer) (phase : Phase) → Sound (firstOn call algorithm (full t n (call .address)) own phase)
-  first-on algorithm own (Waiting deadline) = first-sound algorithm own (steps call (full t n (call .address))) (roomy call (full t n (call .address)))
+  first-on : (algorithm : ℕ) (own : Option Peer) (phase : Phase) → Sound (firstOn call algorithm full own phase)
+  first-on algorithm own (Waiting deadline) = first-sound algorithm own (steps call full) (roomy call full)
   first-on algorithm own (Installed end) = record { seats = tt; late = refl }
 
-  first : (algorithm : ℕ) (own : Option Peer) → Sound (firstFrame call algorithm (full t n (call .address)) own)
-  first algorithm none = first-sound algorithm none (steps call (full t n (call .address))) (roomy call (full t n (call .address)))
+  first : (algorithm : ℕ) (own : Option Peer) → Sound (firstFrame call algorithm full own)
+  first algorithm none = first-sound algorithm none (steps call full) (roomy call full)
   first algorithm (some p) = first-on algorithm (some p) (p .phase)
 
-  module _ (p : Peer) (own : p .address ≡ call .address) (room : full t n (call .address) ≡ false) where
+  -- a record that there is is of this address, and has its place
+  abbrev pub Placed : Option Peer → Type 0
+  Placed none = Unit {0}
+  Placed (some p) = Seats (call .address) full (becomes p)
+
+  module _ (p : Peer) (placed : Placed (some p)) where
     by-mic : (third : Third) → Sound (thirdMic call p third)
     by-mic (Third.Mic part) =
-        either (sameOctets (content (call .body) part) (call .mic)) (record { seats = (own, room); late = refl }) (record { seats = tt; late = refl })
+        either (sameOctets (content (call .body) part) (call .mic)) (record { seats = placed; late = refl }) (record { seats = tt; late = refl })
     by-mic Third.Ill = record { seats = tt; late = refl }
 
     by-akm : (entry : AkmEntry) → Sound (thirdAkm call p entry)
@@ -92,14 +94,13 @@ module _ (t : Table) (n : Tu) (call : Call) where
     third-on status (Waiting deadline) = either (eqb status 0) (by-akm (akmOf (p .akm))) (record { seats = tt; late = refl })
     third-on status (Installed end) = record { seats = tt; late = refl }
 
-  third : (status : ℕ) (own : Option Peer) → shows t n (call .address) ≡ own → Sound (thirdFrame call status own)
-  third status none e = record { seats = tt; late = refl }
-  third status (some p) e =
-      third-on p (shown-is t n (call .address) e .address) (full-shown t n (call .address) e) status (p .phase)
+  third : (status : ℕ) (own : Option Peer) → Placed own → Sound (thirdFrame call status own)
+  third status none h = record { seats = tt; late = refl }
+  third status (some p) h = third-on p h status (p .phase)
 
-  pub sound : (opened : Opened) → Sound (onBody call opened (full t n (call .address)) (shows t n (call .address)))
-  sound (Opened.Body header) =
-      either (not (eqb (header .algorithm) 7)) (record { seats = without (shows t n (call .address)); late = refl })
-      (either (eqb (header .transaction) 1) (first (header .algorithm) (shows t n (call .address)))
-      (either (eqb (header .transaction) 3) (third (header .status) (shows t n (call .address)) refl) (record { seats = tt; late = refl })))
-  sound Opened.NoBody = record { seats = tt; late = refl }
+  pub sound : (own : Option Peer) → Placed own → (opened : Opened) → Sound (onBody call opened full own)
+  sound own h (Opened.Body header) =
+      either (not (eqb (header .algorithm) 7)) (record { seats = without own; late = refl })
+      (either (eqb (header .transaction) 1) (first (header .algorithm) own)
+      (either (eqb (header .transaction) 3) (third (header .status) own h) (record { seats = tt; late = refl })))
+  sound own h Opened.NoBody = record { seats = tt; late = refl }

@@ -1,44 +1,27 @@
 -- What the unit's operations promise, by what the tables show.
 use Prim.Native.Nat.{ℕ, _+_, _≤_}
 use mathlib.Core.Path.{_≡_}
-use mathlib.Core.Bool.{Bool, true, false, _&&_, not}
-use mathlib.Core.List.{List, [], _∷_}
+use mathlib.Core.Bool.{Bool, true, false, _&&_}
+use mathlib.Core.List.{List, _∷_}
 use mathlib.Core.Option.{Option, none, some}
-use lib.Dec.{ltb, leb}
-use lib.ListN.{length}
+use lib.Dec.{leb}
 use Rattle.octets.specs.Choice.{if_then_else_}
 use Rattle.octets.specs.Equality.{sameOctets}
 use Rattle.octets.specs.Wrote.{Wrote}
 use Rattle.units.specs.declared.Tu.{Tu}
-use Rattle.elements.specs.Body.{bodyOf}
-use Rattle.cache.specs.File.{isWellFormed}
 use Rattle.peers.specs.declared.Peer.{Peer}
 use Rattle.peers.specs.declared.Phase.{Phase}
 use Rattle.peers.specs.declared.Phase.the-variants.{Waiting, Installed}
 use Rattle.peers.specs.declared.Table.{Table}
-use Rattle.peers.specs.View.{live, other, shows, others, full, vacantPeer}
+use Rattle.peers.specs.View.{other, shows, others, full, vacantPeer}
 use Rattle.peers.specs.Promises.{whileLive}
-use Rattle.rules.specs.declared.Answer.{Answer}
 use Rattle.rules.specs.declared.Brought.{Brought}
-use Rattle.rules.specs.declared.Verdict.{Verdict}
-use Rattle.rules.specs.OnePeer.{Call, Left, same, gone, becomes, Outcome, numberOf, clockFits, settingsFit, isGroupAddress, firstFrame, thirdFrame, onBody, receiveOf, removeOf, lookUpOf}
-use Rattle.rules.specs.Told.{leftOf, Gets, Decides, thirdCall}
-use Rattle.platform.specs.declared.Checked.{Checked}
+use Rattle.rules.specs.OnePeer.{Call, Left, same, gone, becomes, Outcome, numberOf, receiveOf, removeOf, lookUpOf}
 use Rattle.platform.specs.declared.Received.{Received}
 use Rattle.platform.specs.declared.Removal.{Removal}
 use Rattle.platform.specs.declared.Removed.{Removed}
 use Rattle.platform.specs.declared.LookUp.{LookUp}
 use Rattle.platform.specs.declared.LookedUp.{LookedUp}
-
--- the checks 1 to 5
-unfoldable pub checkedOf : Tu → Brought → List ℕ → ℕ → Checked
-checkedOf latest brought file room =
-    if not (clockFits latest (brought .reading)) then Checked.Failed Answer.ClockOut
-    else if ltb room 148 then Checked.Failed Answer.BufferShort
-    else if not (settingsFit (brought .settings)) then Checked.Failed Answer.SettingsOut
-    else if isGroupAddress (brought .address) then Checked.Failed Answer.GroupAddress
-    else if not (isWellFormed file) then Checked.Failed Answer.CacheIll
-    else Checked.Passed
 
 -- what is shown of this peer afterwards, by what was shown and what the call leaves
 abbrev pub shownAfter : Option Peer → Tu → Left → Option Peer
@@ -58,24 +41,10 @@ pub record Settles (t : Table) (address : List ℕ) (n : Tu) (left : Left) (r : 
       → shows r m b ≡ (if sameOctets address b then shownAfter (shows t m b) m left else shows t m b)
   pub counted : (m : Tu) → n .0 ≤ m .0 → (these : List (List ℕ)) → others r m these ≡ countedAfter t address m these left
 
--- the record that a call makes is of this address, and has a place
-abbrev pub Seats : Table → List ℕ → Tu → Left → Type 0
-Seats t address n same = Unit {0}
-Seats t address n gone = Unit {0}
-Seats t address n (becomes p) = (p .address ≡ address) × (full t n address ≡ false)
-
--- what a verdict leaves of this address's record
-abbrev pub leftBy : Table → List ℕ → Tu → Verdict → Left
-leftBy t address n v = leftOf (shows t n address) (v .leaves) (v .peer)
-
 -- whether a record is a waiting one
 abbrev pub isWaiting : Phase → Bool
 isWaiting (Waiting deadline) = true
 isWaiting (Installed end) = false
-
-abbrev pub waits : Option Peer → Bool
-waits none = false
-waits (some p) = isWaiting (p .phase)
 
 -- what a receive brings, as one call
 abbrev pub callOf : Brought → List ℕ → List ℕ → List ℕ → List ℕ → ℕ → Call
@@ -90,21 +59,6 @@ callOf brought cache key mic body room = record {
   body = body;
   room = room;
 }
-
--- what a first frame gets, whatever MIC is lent
-abbrev pub FirstGets : Table → Brought → List ℕ → List ℕ → List ℕ → ℕ → List ℕ → List ℕ → Verdict → Type 0
-FirstGets t brought file key body algorithm before after r = (mic : List ℕ) (room : ℕ)
-    → Gets (firstFrame (callOf brought file key mic body room) algorithm (full t (brought .reading) (brought .address)) (shows t (brought .reading) (brought .address)))
-    (shows t (brought .reading) (brought .address)) before after r
-
-abbrev pub ThirdGets : Table → List ℕ → Tu → List ℕ → List ℕ → ℕ → Verdict → Type 0
-ThirdGets t address n mic body status r = Decides (thirdFrame (thirdCall n mic body) status (shows t n address)) (shows t n address) r
-
--- what a body gets, once the call is checked
-abbrev pub BodyGets : Table → Brought → List ℕ → List ℕ → List ℕ → List ℕ → List ℕ → List ℕ → Verdict → Type 0
-BodyGets t brought file key mic body before after r =
-    Gets (onBody (callOf brought file key mic body (length before)) (bodyOf body) (full t (brought .reading) (brought .address)) (shows t (brought .reading) (brought .address)))
-    (shows t (brought .reading) (brought .address)) before after r
 
 -- whether an answer is one of 1 to 5
 abbrev pub isEarly : ℕ → Bool

@@ -1,15 +1,18 @@
 // The platform unit: sixteen records, and the operations that a host calls. None of them has a `requires`.
 ghost use mathlib.Core.Path.{_≡_};
 ghost use mathlib.Core.Bool.{true};
+ghost use mathlib.Core.List.{[]};
 ghost use lib.ListN.{length};
+ghost use Rattle.elements.specs.Body.{bodyOf};
 ghost use Rattle.frames.specs.Contents.{content};
 ghost use Rattle.frames.specs.Bodies.{keyPart, zeroAnswer, zeroed, setAnswer, setOctets};
 ghost use Rattle.peers.specs.Promises.{Nobody};
-ghost use Rattle.peers.specs.View.{shows, vacantPeer};
-ghost use Rattle.rules.specs.OnePeer.{numberOf, clockFits, settingsFit, isGroupAddress};
-ghost use Rattle.rules.specs.Told.{Ready};
+ghost use Rattle.peers.specs.View.{full, vacantPeer};
+ghost use Rattle.rules.specs.OnePeer.{numberOf, clockFits, settingsFit, isGroupAddress, firstFrame, thirdFrame, onBody};
+ghost use Rattle.rules.specs.Told.{Ready, Gets, Decides, thirdCall};
 ghost use Rattle.units.specs.Units.{inClock};
-ghost use Rattle.platform.specs.Promises.{checkedOf, waits, Settles, Seats, leftBy, FirstGets, ThirdGets, BodyGets, callOf, Receives, Removes, LooksUp, removalNumber, lookNumber};
+ghost use Rattle.platform.specs.Inside.{checkedOf, seen, isFull, waits, isInstalled, leftBy, Seats};
+ghost use Rattle.platform.specs.Promises.{Settles, callOf, Receives, Removes, LooksUp, removalNumber, lookNumber};
 use elements::Opened;
 use frames::bodies::MicAnswer;
 use frames::bodies::PASN;
@@ -172,14 +175,23 @@ fn check_call(latest: Tu, brought: Brought, file: &[u8], room: usize) -> Checked
     Checked::Passed
 }
 
-fn is_waiting(t: Table, address: [u8; 6], reading: Tu) -> bool
-    ensures { λ r. ⌜ r ≡ waits (shows t reading address) ⌝ }
+// From here on `found` is what the search answered of this peer, and `peer` the record at its place, or a vacant one without a place.
+fn is_full(found: Found) -> bool
+    ensures { λ r. ⌜ r ≡ isFull found ⌝ }
 {
-    let found = peers::find(t, address, reading);
-    let Found::At(i) = found else {
+    match found {
+        Found::At(_) => false,
+        Found::Free => false,
+        Found::Full => true,
+    }
+}
+
+fn is_waiting(found: Found, peer: Peer) -> bool
+    ensures { λ r. ⌜ r ≡ waits (seen found peer) ⌝ }
+{
+    let Found::At(_) = found else {
         return false;
     };
-    let peer = t.peers[i];
     let phase = peer.phase;
     match phase {
         Phase::Waiting(_) => true,
@@ -187,30 +199,47 @@ fn is_waiting(t: Table, address: [u8; 6], reading: Tu) -> bool
     }
 }
 
+fn is_installed(found: Found, peer: Peer) -> bool
+    ensures { λ r. ⌜ r ≡ isInstalled (seen found peer) ⌝ }
+{
+    let Found::At(_) = found else {
+        return false;
+    };
+    !is_waiting(found, peer)
+}
+
 // The table as a verdict leaves it, and the reading as its latest.
-fn settle(t: Table, address: [u8; 6], reading: Tu, verdict: Verdict) -> Table
-    requires { ⌜ Seats t address reading (leftBy t address reading verdict) ⌝ }
-    ensures { λ r. ⌜ Settles t address reading (leftBy t address reading verdict) r × (r .latest ≡ reading) ⌝ }
+fn settle(
+    t: Table,
+    address: [u8; 6],
+    reading: Tu,
+    found: Found,
+    peer: Peer,
+    verdict: Verdict,
+) -> Table
+    requires { ⌜ Seats address (full t reading address) (leftBy (seen found peer) verdict) ⌝ }
+    ensures { λ r. ⌜ Settles t address reading (leftBy (seen found peer) verdict) r × (r .latest ≡ reading) ⌝ }
 {
     let leaves = verdict.leaves;
-    let peer = verdict.peer;
+    let next = verdict.peer;
     let mut u = t;
     u.latest = reading;
     match leaves {
         Leaves::Same => u,
         Leaves::WaitingGoes => {
-            if is_waiting(t, address, reading) {
+            if is_waiting(found, peer) {
                 return peers::drop(u, address);
             }
             u
         }
-        Leaves::Becomes => peers::put(u, peer, reading),
+        Leaves::Becomes => peers::put(u, next, reading),
     }
 }
 
-// A first frame: an installed peer's key is not displaced, and a record that is shown has its place already.
+// A first frame: an installed peer's key is not displaced. Neither a lent MIC nor the buffer's length is looked at.
 fn on_first(
-    t: Table,
+    found: Found,
+    peer: Peer,
     brought: Brought,
     file: &[u8],
     key: &[u8],
@@ -219,45 +248,29 @@ fn on_first(
     reply: &mut [u8],
 ) -> Verdict
     requires { ⌜ Ready brought (now file) (length (now reply)) ⌝ }
-    ensures { λ r. ⌜ FirstGets t brought (now (file .entry)) (now (key .entry)) (now (body .entry)) algorithm (now (reply .entry)) (now (reply .exit)) r ⌝ }
+    ensures { λ r. ⌜ Gets (firstFrame (callOf brought (now (file .entry)) (now (key .entry)) [] (now (body .entry)) 0) algorithm (isFull found) (seen found peer)) (seen found peer) (now (reply .entry)) (now (reply .exit)) r ⌝ }
 {
-    let address = brought.address;
-    let reading = brought.reading;
-    let found = peers::find(t, address, reading);
-    let Found::At(i) = found else {
-        let full = peers::is_full(t, address, reading);
-        return rules::first::answer(brought, file, key, body, algorithm, full, reply);
-    };
-    let peer = t.peers[i];
-    let phase = peer.phase;
-    let Phase::Waiting(_) = phase else {
+    if is_installed(found, peer) {
         return rules::only(Answer::PeerInstalled, Leaves::Same);
-    };
-    rules::first::answer(brought, file, key, body, algorithm, false, reply)
+    }
+    let full = is_full(found);
+    rules::first::answer(brought, file, key, body, algorithm, full, reply)
 }
 
-fn on_third(
-    t: Table,
-    address: [u8; 6],
-    reading: Tu,
-    mic: &[u8],
-    body: &[u8],
-    status: u16,
-) -> Verdict
+fn on_third(found: Found, peer: Peer, reading: Tu, mic: &[u8], body: &[u8], status: u16) -> Verdict
     requires { ⌜ inClock reading ≡ true ⌝ }
-    ensures { λ r. ⌜ ThirdGets t address reading (now (mic .entry)) (now (body .entry)) status r ⌝ }
+    ensures { λ r. ⌜ Decides (thirdFrame (thirdCall reading (now (mic .entry)) (now (body .entry))) status (seen found peer)) (seen found peer) r ⌝ }
 {
-    let found = peers::find(t, address, reading);
-    let Found::At(i) = found else {
+    let Found::At(_) = found else {
         return rules::only(Answer::NoExchange, Leaves::Same);
     };
-    let peer = t.peers[i];
     rules::third::answer(peer, reading, mic, body, status)
 }
 
 // What a body gets, once the call is checked.
 fn on_body(
-    t: Table,
+    found: Found,
+    peer: Peer,
     brought: Brought,
     file: &[u8],
     key: &[u8],
@@ -266,7 +279,7 @@ fn on_body(
     reply: &mut [u8],
 ) -> Verdict
     requires { ⌜ Ready brought (now file) (length (now reply)) × (inClock (brought .reading) ≡ true) ⌝ }
-    ensures { λ r. ⌜ BodyGets t brought (now (file .entry)) (now (key .entry)) (now (mic .entry)) (now (body .entry)) (now (reply .entry)) (now (reply .exit)) r ⌝ }
+    ensures { λ r. ⌜ Gets (onBody (callOf brought (now (file .entry)) (now (key .entry)) (now (mic .entry)) (now (body .entry)) (length (now (reply .entry)))) (bodyOf (now (body .entry))) (isFull found) (seen found peer)) (seen found peer) (now (reply .entry)) (now (reply .exit)) r ⌝ }
 {
     let opened = elements::open_body(body);
     let Opened::Body(header) = opened else {
@@ -276,12 +289,20 @@ fn on_body(
         return rules::only(Answer::Algorithm, Leaves::WaitingGoes);
     }
     if header.transaction == 1 {
-        return on_first(t, brought, file, key, body, header.algorithm, reply);
+        return on_first(
+            found,
+            peer,
+            brought,
+            file,
+            key,
+            body,
+            header.algorithm,
+            reply,
+        );
     }
     if header.transaction == 3 {
-        let address = brought.address;
         let reading = brought.reading;
-        return on_third(t, address, reading, mic, body, header.status);
+        return on_third(found, peer, reading, mic, body, header.status);
     }
     rules::only(Answer::Transaction, Leaves::Same)
 }
@@ -307,10 +328,15 @@ pub fn receive(
             length: 0,
         },
         Checked::Passed => {
-            let verdict = on_body(t, brought, file, key, mic, body, reply);
             let address = brought.address;
             let reading = brought.reading;
-            let table = settle(t, address, reading, verdict);
+            let found = peers::find(t, address, reading);
+            let mut peer = peers::vacant();
+            if let Found::At(i) = found {
+                peer = t.peers[i];
+            }
+            let verdict = on_body(found, peer, brought, file, key, mic, body, reply);
+            let table = settle(t, address, reading, found, peer, verdict);
             let answer = verdict.answer;
             Received {
                 table: table,

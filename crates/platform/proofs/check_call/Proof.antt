@@ -1,6 +1,6 @@
 use mathlib.Core.Path.{sym, _∙_}
 use borrow.Author.Tests.{lt-ltb, le-ltb, not-true, not-false}
-use Rattle.platform.specs.Promises.{checkedOf}
+use Rattle.platform.specs.Inside.{checkedOf}
 use borrow.Author.Needs.{needs}
 use Rattle.platform.proofs.check_call.Statement.{statement}
 use Rattle.platform.proofs.check_call.Tie as tie

@@ -1,14 +1,31 @@
-use mathlib.Core.Path.{sym, _∙_}
+use mathlib.Core.Path.{_≡_, sym, _∙_}
+use mathlib.Core.Option.{Option}
 use lib.ListN.{length}
-use Rattle.peers.specs.View.{shows, full}
+use Rattle.elements.specs.declared.Opened.{Opened}
+use Rattle.elements.specs.Body.{bodyOf}
+use Rattle.peers.specs.declared.Peer.{Peer}
+use Rattle.rules.specs.OnePeer.{Call}
 use Rattle.rules.proofs.Accepting.{gets-same}
-use Rattle.rules.proofs.Verdicts.{stays, decides-same}
+use Rattle.rules.proofs.Verdicts.{stays}
 use Rattle.platform.specs.Promises.{callOf}
-use Rattle.platform.proofs.Calls.{decides-gets}
-use Rattle.platform.proofs.Bodies.{leaves-waiting, body-none, body-algorithm, body-first, body-third, body-neither, third-same}
+use Rattle.platform.specs.Inside.{seen, isFull}
+use Rattle.platform.proofs.Calls.{first-same, third-same}
+use Rattle.platform.proofs.Bodies.{decides-gets, leaves-waiting, body-none, body-algorithm, body-first, body-third, body-neither}
 use borrow.Author.Needs.{needs}
 use Rattle.platform.proofs.on_body.Statement.{statement}
 use Rattle.platform.proofs.on_body.Tie as tie
+
+abbrev call : tie.Start → Call
+call s = callOf (s .args .brought) (s .args .file .now) (s .args .key .now) (s .args .mic .now) (s .args .body .now) (length (s .args .reply .now))
+
+abbrev own : tie.Start → Option Peer
+own s = seen (s .args .found) (s .args .peer)
+
+abbrev start : tie.After-known-told → tie.Start
+start c = c .before .before .before .before .before .before .before .before .before
+
+opened : (c : tie.After-known-told) → bodyOf (start c .args .body .now) ≡ Opened.Body (c .before .opened .given .0 .0)
+opened c = sym (c .before .before .before .open-body .ensures) ∙ c .before .opened .given .1
 
 open-body-requires : tie.Need-open-body-requires
 open-body-requires c κs = search needs
@@ -25,18 +42,17 @@ only-requires c κs = search needs
 returns : tie.Need-returns
 returns c =
     let p = c .before .before .before in
-    let q = p .before .before .before .before .before .before in
-    gets-same (body-none (callOf (q .args .brought) (q .args .file .now) (q .args .key .now) (q .args .mic .now) (q .args .body .now) (length (q .args .reply .now))) (full (q .args .t) (q .args .brought .reading) (q .args .brought .address)) (shows (q .args .t) (q .args .brought .reading) (q .args .brought .address)) (sym (p .open-body .ensures) ∙ c .before .enum-told .given .1)) (decides-gets (q .args .reply .now) (stays (shows (q .args .t) (q .args .brought .reading) (q .args .brought .address)) (c .only .ensures)))
+    let s = p .before .before .before .before .before .before in
+    gets-same (body-none (call s) (isFull (s .args .found)) (own s) (sym (p .open-body .ensures) ∙ c .before .enum-told .given .1)) (decides-gets (s .args .reply .now) (stays (own s) (c .only .ensures)))
 
 only-requires-2 : tie.Need-only-requires-2
 only-requires-2 c κs = search needs
 
 returns-2 : tie.Need-returns-2
 returns-2 c =
-    let p = c .before .before .before .before in
-    let q = p .before .before in
-    let r = q .before .before .before .before .before .before in
-    gets-same (body-algorithm (callOf (r .args .brought) (r .args .file .now) (r .args .key .now) (r .args .mic .now) (r .args .body .now) (length (r .args .reply .now))) (full (r .args .t) (r .args .brought .reading) (r .args .brought .address)) (shows (r .args .t) (r .args .brought .reading) (r .args .brought .address)) (sym (q .open-body .ensures) ∙ p .opened .given .1) (c .before .if1 .taken)) (decides-gets (r .args .reply .now) (leaves-waiting (shows (r .args .t) (r .args .brought .reading) (r .args .brought .address)) (c .only2 .ensures)))
+    let p = c .before .before .before in
+    let s = start p in
+    gets-same (body-algorithm (call s) (isFull (s .args .found)) (own s) (opened p) (c .before .if1 .taken)) (decides-gets (s .args .reply .now) (leaves-waiting (own s) (c .only2 .ensures)))
 
 on-first-requires : tie.Need-on-first-requires
 on-first-requires c κs = search needs
@@ -49,35 +65,33 @@ returns-3 c =
     let p = c .before .before in
     let q = p .before .before in
     let r = q .before .before in
-    let s = r .before .before .before in
-    let u = s .before .before in
-    let v = u .before .before .before .before .before .before in
-    gets-same (body-first (callOf (v .args .brought) (v .args .file .now) (v .args .key .now) (v .args .mic .now) (v .args .body .now) (length (v .args .reply .now))) (full (v .args .t) (v .args .brought .reading) (v .args .brought .address)) (shows (v .args .t) (v .args .brought .reading) (v .args .brought .address)) (sym (u .open-body .ensures) ∙ s .opened .given .1) (r .if1 .left) (q .if2 .taken)) (p .on-first .ensures (v .args .mic .now) (length (v .args .reply .now)))
+    let w = r .before .before in
+    let s = start w in
+    gets-same (first-same (call s) _ (isFull (s .args .found)) (own s) ∙ body-first (call s) (isFull (s .args .found)) (own s) (opened w) (r .if1 .left) (q .if2 .taken)) (p .on-first .ensures)
 
 on-third-requires : tie.Need-on-third-requires
 on-third-requires c κs = search needs
 
 returns-4 : tie.Need-returns-4
 returns-4 c =
-    let p = c .before .before .before in
+    let p = c .before .before in
     let q = p .before .before in
     let r = q .before .before in
-    let s = r .before .before .before in
-    let u = s .before .before in
-    let v = u .before .before .before .before .before .before in
-    gets-same (third-same (v .args .brought) (v .args .file .now) (v .args .key .now) (v .args .mic .now) (v .args .body .now) (length (v .args .reply .now)) (s .opened .given .0 .0 .status) (shows (v .args .t) (v .args .brought .reading) (v .args .brought .address)) ∙ body-third (callOf (v .args .brought) (v .args .file .now) (v .args .key .now) (v .args .mic .now) (v .args .body .now) (length (v .args .reply .now))) (full (v .args .t) (v .args .brought .reading) (v .args .brought .address)) (shows (v .args .t) (v .args .brought .reading) (v .args .brought .address)) (sym (u .open-body .ensures) ∙ s .opened .given .1) (r .if1 .left) (q .if2 .left) (p .if3 .taken)) (decides-gets (v .args .reply .now) (c .on-third .ensures))
+    let w = r .before .before in
+    let s = start w in
+    gets-same (third-same (call s) _ (own s) ∙ body-third (call s) (isFull (s .args .found)) (own s) (opened w) (r .if1 .left) (q .if2 .left) (p .if3 .taken)) (decides-gets (s .args .reply .now) (c .on-third .ensures))
 
 only-requires-3 : tie.Need-only-requires-3
 only-requires-3 c κs = search needs
 
 returns-5 : tie.Need-returns-5
 returns-5 c =
-    let p = c .before .before .before in
+    let p = c .before in
     let q = p .before .before in
-    let r = q .before .before .before in
-    let s = r .before .before in
-    let u = s .before .before .before .before .before .before in
-    gets-same (body-neither (callOf (u .args .brought) (u .args .file .now) (u .args .key .now) (u .args .mic .now) (u .args .body .now) (length (u .args .reply .now))) (full (u .args .t) (u .args .brought .reading) (u .args .brought .address)) (shows (u .args .t) (u .args .brought .reading) (u .args .brought .address)) (sym (s .open-body .ensures) ∙ r .opened .given .1) (q .if1 .left) (p .if2 .left) (c .before .if3 .left)) (decides-gets (u .args .reply .now) (stays (shows (u .args .t) (u .args .brought .reading) (u .args .brought .address)) (c .only3 .ensures)))
+    let r = q .before .before in
+    let w = r .before .before in
+    let s = start w in
+    gets-same (body-neither (call s) (isFull (s .args .found)) (own s) (opened w) (r .if1 .left) (q .if2 .left) (p .if3 .left)) (decides-gets (s .args .reply .now) (stays (own s) (c .only3 .ensures)))
 
 pub on-body-spec : {M : Type 1} → statement M
 on-body-spec =

@@ -15,7 +15,8 @@ use Rattle.rules.specs.OnePeer.{same, after, installedPeer, isGroupAddress}
 use Rattle.platform.specs.Promises.{isWaiting}
 use Rattle.demands.specs.Calls.{Frame, callFor, Ask, receive, remove, lookUp, readingOf, Alone, liveAt, outcomeFor, leaves}
 use Rattle.demands.specs.InstalledKey.{Makes, isRemoval}
-use Rattle.demands.proofs.Outcomes.{isInstalled, Kind, keeps, ends, begins, installs, kind-of, Made, begun, installed, made-of}
+use Rattle.platform.specs.Inside.{isInstalled}
+use Rattle.demands.proofs.Outcomes.{Kind, keeps, ends, begins, installs, kind-of, Made, begun, installed, made-of}
 
 pub live-earlier : (p : Peer) (n m : Tu) → n .0 ≤ m .0 → live p m ≡ true → live p n ≡ true
 live-earlier p n m h e = lt-ltb (n .0) (until (p .phase) .0) (omega (arith, ltb-true (m .0) (until (p .phase) .0) e))

@@ -30,7 +30,9 @@ use Rattle.peers.specs.View.{shows, full}
 use Rattle.rules.specs.declared.Answer.{Answer}
 use Rattle.rules.specs.OnePeer.{Call, becomes, Outcome, numberOf, statusOf, clockFits, settingsFit, isGroupAddress, Step, refuse, pass, Passed, steps, acceptance, refusal, firstOutcome, firstOn, firstFrame, installedPeer, thirdMic, thirdAkm, thirdOn, thirdFrame, onBody, receiveOf}
 use Rattle.rules.proofs.Verdicts.{third-alike}
-use Rattle.demands.specs.ReadsBack.{ChecksPass, isInstalled, installed, FirstFrame, AcceptsFirst, RefusesFirst, AcceptsThird, AcceptanceIsExact}
+use Rattle.platform.specs.Inside.{isInstalled}
+use Rattle.platform.specs.Promises.{isWaiting}
+use Rattle.demands.specs.ReadsBack.{ChecksPass, FirstFrame, AcceptsFirst, RefusesFirst, AcceptsThird, AcceptanceIsExact}
 use Rattle.demands.proofs.CoincideLaws.{ruled}
 
 -- the numbers that the statement says nothing of
@@ -100,12 +102,12 @@ module _ (t : Table) (call : Call) where
           installs = λ n. absurd (omega (arith, n));
         })
 
-  first-says : (algorithm : ℕ) (peer : Option Peer) → (installed peer ≡ false → FirstFrame t call) → Says (firstFrame call algorithm crowded peer)
+  first-says : (algorithm : ℕ) (peer : Option Peer) → (isInstalled peer ≡ false → FirstFrame t call) → Says (firstFrame call algorithm crowded peer)
   first-says algorithm none frame = steps-say (frame refl) algorithm none (steps call crowded) refl
   first-says algorithm (some p) frame = go (p .phase) refl
     where
       go : (phase : Phase) → p .phase ≡ phase → Says (firstOn call algorithm crowded (some p) phase)
-      go (Waiting deadline) e = steps-say (frame (ap isInstalled e)) algorithm (some p) (steps call crowded) refl
+      go (Waiting deadline) e = steps-say (frame (ap (λ (x : Phase). not (isWaiting x)) e)) algorithm (some p) (steps call crowded) refl
       go (Installed end) e = nothing refl
 
   third-says : (status : ℕ) (peer : Option Peer) → own ≡ peer
@@ -175,11 +177,11 @@ module _ (t : Table) (call : Call) where
   pub ruled-first : FirstFrame t call → ruled t call ≡ firstOutcome call 7 own (steps call crowded)
   ruled-first f = ruled-body (f .checked) ∙ ap (λ (o : Opened). onBody call o crowded own) (f .opens) ∙ go own (f .free)
     where
-      on : (peer : Option Peer) (phase : Phase) → isInstalled phase ≡ false → firstOn call 7 crowded peer phase ≡ firstOutcome call 7 peer (steps call crowded)
+      on : (peer : Option Peer) (phase : Phase) → not (isWaiting phase) ≡ false → firstOn call 7 crowded peer phase ≡ firstOutcome call 7 peer (steps call crowded)
       on peer (Waiting deadline) e = refl
       on peer (Installed end) e = absurd (true≢false e)
 
-      go : (peer : Option Peer) → installed peer ≡ false → firstFrame call 7 crowded peer ≡ firstOutcome call 7 peer (steps call crowded)
+      go : (peer : Option Peer) → isInstalled peer ≡ false → firstFrame call 7 crowded peer ≡ firstOutcome call 7 peer (steps call crowded)
       go none e = refl
       go (some p) e = on (some p) (p .phase) e
 

@@ -15,7 +15,7 @@ use Rattle.rules.specs.OnePeer.{Call, Outcome, numberOf}
 use Rattle.platform.specs.Promises.{shownAfter, Answers}
 use Rattle.demands.specs.Edges.{tu, firstBody, thirdBody, station, hears, recordOf, gets}
 use Rattle.demands.specs.Coincide.{Reception}
-use Rattle.demands.specs.ReadsBack.{installed}
+use Rattle.platform.specs.Inside.{isInstalled}
 use Rattle.demands.specs.ShutsOut.{Responder, Meets, ConstantReply, WritesNothing, RecordsNothing, InstallsAtOnce, ShutsOut}
 use Rattle.demands.proofs.CoincideLaws.{ruled}
 use Rattle.octets.proofs.Parts.{wrote-stands}
@@ -93,7 +93,7 @@ module _ (f : Responder) (meets : Meets f) where
 
   not-at-once : ¬ InstallsAtOnce f
   unfolding gets
-  not-at-once c = false≢true (sym (ap installed shown) ∙ c empty (asking 4) buffer (accepted 4 refl))
+  not-at-once c = false≢true (sym (ap isInstalled shown) ∙ c empty (asking 4) buffer (accepted 4 refl))
 
 pub shuts-out : ShutsOut
 unfolding gets

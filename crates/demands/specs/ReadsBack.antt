@@ -3,7 +3,7 @@ use mathlib.Core.Path.{_≡_}
 use mathlib.Core.Bool.{Bool, true, false}
 use mathlib.Core.List.{List}
 use mathlib.Core.Logic.{_↔_}
-use mathlib.Core.Option.{Option, none, some}
+use mathlib.Core.Option.{some}
 use Prim.Native.Nat.{ℕ, _≤_}
 use lib.ListN.{length, take, replicate}
 use Rattle.units.specs.declared.Tu.{Tu}
@@ -23,13 +23,13 @@ use Rattle.frames.specs.SecondRead.{secondOf}
 use Rattle.frames.specs.Third.{thirdOf}
 use Rattle.cache.specs.File.{isWellFormed}
 use Rattle.peers.specs.declared.Peer.{Peer}
-use Rattle.peers.specs.declared.Phase.{Phase}
-use Rattle.peers.specs.declared.Phase.the-variants.{Waiting, Installed}
+use Rattle.peers.specs.declared.Phase.the-variants.{Waiting}
 use Rattle.peers.specs.declared.Table.{Table}
 use Rattle.peers.specs.View.{shows, full}
 use Rattle.rules.specs.declared.Answer.{Answer}
 use Rattle.rules.specs.OnePeer.{Call, numberOf, clockFits, settingsFit, isGroupAddress, refuse, pass, Passed, steps, lifetimeOf}
 use Rattle.platform.specs.declared.Received.{Received}
+use Rattle.platform.specs.Inside.{isInstalled}
 use Rattle.platform.specs.Promises.{Receives}
 
 -- What receive accepts --------------------------------------------------------------------------------------------------------------------
@@ -42,21 +42,12 @@ pub record ChecksPass (t : Table) (call : Call) : Type 0 where
   pub address : isGroupAddress (call .address) ≡ false
   pub cache : isWellFormed (call .cache) ≡ true
 
--- whether a peer is installed
-abbrev pub isInstalled : Phase → Bool
-isInstalled (Waiting deadline) = false
-isInstalled (Installed end) = true
-
-abbrev pub installed : Option Peer → Bool
-installed none = false
-installed (some p) = isInstalled (p .phase)
-
 -- a first frame that comes to its steps
 pub record FirstFrame (t : Table) (call : Call) : Type 0 where
   pub checked : ChecksPass t call
   pub status : ℕ
   pub opens : bodyOf (call .body) ≡ Opened.Body (record { algorithm = 7; transaction = 1; status = status })
-  pub free : installed (shows t (call .reading) (call .address)) ≡ false
+  pub free : isInstalled (shows t (call .reading) (call .address)) ≡ false
 
 -- it passes them all, and our own key is of the group's form or not
 pub record AcceptsFirst (own-key : Bool) (t : Table) (call : Call) : Type 0 where

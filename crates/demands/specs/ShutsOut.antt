@@ -8,9 +8,9 @@ use Rattle.units.specs.declared.Tu.{Tu}
 use Rattle.peers.specs.declared.Table.{Table}
 use Rattle.peers.specs.View.{shows}
 use Rattle.rules.specs.OnePeer.{Call, numberOf}
+use Rattle.platform.specs.Inside.{isInstalled}
 use Rattle.platform.specs.Promises.{Receives}
 use Rattle.demands.specs.Coincide.{Reception}
-use Rattle.demands.specs.ReadsBack.{installed}
 
 -- anything that takes a table, a call and a reply buffer
 abbrev pub Responder : Type 0
@@ -42,7 +42,7 @@ RecordsNothing f = (t : Table) (call : Call) (before : List ℕ) (m : Tu) (a : L
 -- with the second frame the peer is installed, so that the third has nothing left to do
 abbrev pub InstallsAtOnce : Responder → Type 0
 InstallsAtOnce f = (t : Table) (call : Call) (before : List ℕ) → Gives f 0 t call before
-    → installed (shows (f t call before .received .table) (call .reading) (call .address)) ≡ true
+    → isInstalled (shows (f t call before .received .table) (call .reading) (call .address)) ≡ true
 
 -- One that refuses all frames is shut out twice over, and so is one that neither writes nor records.
 pub record ShutsOut : Type 0 where

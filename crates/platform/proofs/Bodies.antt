@@ -21,14 +21,6 @@ use Rattle.platform.specs.Promises.{isWaiting}
 use Rattle.platform.specs.Inside.{isInstalled}
 use Rattle.platform.proofs.Calls.{broughtOf, firstCall}
 
--- a verdict that writes nothing leaves the buffer as it was
-pub decides-gets : {o : Outcome} {own : Option Peer} {r : Verdict} (d : List ℕ) → Decides o own r → Gets o own d d r
-decides-gets {o} {own} {r} d v = record {
-  answer = v .answer;
-  wrote = subst (λ (n : ℕ). Wrote (o .reply) n d d) (sym (v .told)) (subst (λ (l : List ℕ). Wrote l 0 d d) (sym (v .silent)) (wrote-none d));
-  leaves = v .leaves;
-}
-
 -- a verdict after which a waiting record goes
 pub leaves-waiting : {answer : Answer} {r : Verdict} (own : Option Peer) → Only answer Leaves.WaitingGoes r
     → Decides (record { answer = answer; reply = []; leaves = withoutWaiting own }) own r

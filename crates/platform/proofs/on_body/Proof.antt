@@ -6,11 +6,11 @@ use Rattle.elements.specs.Body.{bodyOf}
 use Rattle.peers.specs.declared.Peer.{Peer}
 use Rattle.rules.specs.OnePeer.{Call}
 use Rattle.rules.proofs.Accepting.{gets-same}
-use Rattle.rules.proofs.Verdicts.{stays}
+use Rattle.rules.proofs.Verdicts.{stays, decides-gets}
 use Rattle.platform.specs.Promises.{callOf}
 use Rattle.platform.specs.Inside.{seen, isFull}
 use Rattle.platform.proofs.Calls.{first-same, third-same}
-use Rattle.platform.proofs.Bodies.{decides-gets, leaves-waiting, body-none, body-algorithm, body-first, body-third, body-neither}
+use Rattle.platform.proofs.Bodies.{leaves-waiting, body-none, body-algorithm, body-first, body-third, body-neither}
 use borrow.Author.Needs.{needs}
 use Rattle.platform.proofs.on_body.Statement.{statement}
 use Rattle.platform.proofs.on_body.Tie as tie

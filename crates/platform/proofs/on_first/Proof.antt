@@ -4,10 +4,10 @@ use mathlib.Core.List.{[]}
 use Rattle.rules.specs.OnePeer.{Call}
 use Rattle.rules.specs.Told.{firstFor}
 use Rattle.rules.proofs.Accepting.{gets-same}
-use Rattle.rules.proofs.Verdicts.{stays}
+use Rattle.rules.proofs.Verdicts.{stays, decides-gets}
 use Rattle.platform.specs.Promises.{callOf}
 use Rattle.platform.specs.Inside.{seen, isFull}
-use Rattle.platform.proofs.Bodies.{decides-gets, first-installed, first-open}
+use Rattle.platform.proofs.Bodies.{first-installed, first-open}
 use borrow.Author.Needs.{needs}
 use Rattle.platform.proofs.on_first.Statement.{statement}
 use Rattle.platform.proofs.on_first.Tie as tie

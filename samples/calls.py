@@ -5,7 +5,8 @@
     python3 samples/calls.py --check    says whether they are what it would write
     python3 samples/calls.py --list     prints the cases, each beside what it shows
 
-Every expected line is worked out here from document 01: the replies are built from its layouts, and each answer stands beside its call.
+Every expected line is worked out here from document 01: the replies are built from its layouts, and each answer stands beside its call. Last come generated calls with the lines
+that an independent responder gives them, kept in samples/generated.log and .txt; `compare/run log 1 3000 samples/generated.log samples/generated.txt` writes these.
 """
 import os
 import sys
@@ -109,6 +110,10 @@ FAR = 1 << 40
 ALL_CIPHERS = 0b1111
 CIPHER_FLAG = {4: 1, 8: 2, 9: 4, 10: 8}
 LIFETIME, DEADLINE = 3600, 1000
+
+
+# what is in force before the first record of each tag
+NOTHING_SET_UP = {1: bytes(10), 2: b"", 3: b"\0", 4: b"", 5: b"", 6: le(2, 148)}
 
 
 def train(n):
@@ -667,6 +672,22 @@ def mics(log):
         log.set(zeroed, 20)
 
 
+def generated(log):
+    log.cases.append("generated calls of 24 addresses, and what the independent responder of compare/ answers them")
+    log.put(22, b"")
+    log.lines.append("empty")
+    for tag, value in NOTHING_SET_UP.items():
+        log.set_up(tag, value)
+    with open(os.path.join(TOP, "samples", "generated.log"), "rb") as octets:
+        log.octets += octets.read()
+    with open(os.path.join(TOP, "samples", "generated.txt"), encoding="ascii") as text:
+        lines = text.read().splitlines()
+    word, counted = lines.pop().split()
+    assert word == "counted"
+    log.lines += lines
+    log.counted += int(counted)
+
+
 CASES = [
     before_any_set_up,
     exchanges,
@@ -691,6 +712,7 @@ CASES = [
     group_bit,
     keys_shown,
     mics,
+    generated,
 ]
 
 

@@ -2,7 +2,7 @@
 use mathlib.Core.Path.{_≡_, refl, sym, ap, ap₂, _∙_, subst}
 use mathlib.Core.Bool.{Bool, true, false}
 use mathlib.Core.List.{List, [], _∷_, _++_, append-nil}
-use Prim.Native.Nat.{ℕ, _+_, _<_, _≤_}
+use Prim.Native.Nat.{ℕ, _+_, _≤_}
 use native.Mathlib.Omega.{arith}
 use borrow.Author.Tests.{le-ltb, eqb-true}
 use lib.Dec.{ltb, eqb}
@@ -14,9 +14,7 @@ use Rattle.elements.specs.declared.Element.{Element}
 use Rattle.elements.specs.declared.Step.the-variants.{Stands, End, Failed}
 use Rattle.elements.specs.declared.Kind.{Kind}
 use Rattle.elements.specs.declared.Kind.the-variants.{Rsne, Timeout, Mic, Fragment, Parameters, Wrapped, Skipped}
-use Rattle.elements.specs.declared.Part.{Part}
 use Rattle.elements.specs.declared.Times.{Times}
-use Rattle.elements.specs.declared.Times.the-variants.{None, One, More}
 use Rattle.elements.specs.declared.Places.{Places}
 use Rattle.elements.specs.declared.Scan.{Scan}
 use Rattle.elements.specs.Step.{stepAt}

@@ -1,18 +1,16 @@
 -- Laws of one step: what is known of an element that stands at a place, and when one does.
 use mathlib.Core.Path.{_≡_, refl, sym, ap, _∙_}
 use mathlib.Core.Bool.{Bool, true, false, _&&_}
-use mathlib.Core.List.{List, [], _∷_, _++_}
-use Prim.Native.Nat.{ℕ, suc, _+_, _-_, _<_, _≤_}
+use mathlib.Core.List.{List, _++_}
+use Prim.Native.Nat.{ℕ, _+_, _-_, _<_, _≤_}
 use native.Mathlib.Omega.{arith}
-use borrow.Author.Tests.{leb-true, leb-false, le-leb, lt-leb, le-ltb, eqb-true, eqb-false, eq-eqb, ne-eqb, ltb-false}
+use borrow.Author.Tests.{leb-true, leb-false, le-leb, lt-leb, le-ltb, eqb-true, eqb-false, ne-eqb, ltb-false}
 use lib.Dec.{ltb, leb, eqb}
 use lib.ListN.{length, getD, length-append, List·getD-append}
-use lib.Seq.{getD-append-add}
 use Rattle.octets.specs.Choice.{if_then_else_}
 use Rattle.elements.specs.declared.Extension.{Extension}
 use Rattle.elements.specs.declared.Extension.the-variants.{Id, Absent}
 use Rattle.elements.specs.declared.Element.{Element}
-use Rattle.elements.specs.declared.Step.{Step}
 use Rattle.elements.specs.declared.Step.the-variants.{Stands, End, Failed}
 use Rattle.elements.specs.Step.{elementAt, stepAt}
 

@@ -1,5 +1,4 @@
 -- What the scan does at one element.
-use mathlib.Core.Bool.{Bool}
 use Rattle.octets.specs.Choice.{if_then_else_}
 use Rattle.elements.specs.declared.Kind.{Kind}
 use Rattle.elements.specs.declared.Kind.the-variants.{Rsne, Timeout, Mic, Fragment, Parameters, Wrapped}

@@ -1,6 +1,6 @@
 -- The elements that the rules speak of: how many of each there are, and where the first stands.
 use Prim.Native.Nat.{ℕ}
-use mathlib.Core.Bool.{Bool, true, false}
+use mathlib.Core.Bool.{Bool}
 use mathlib.Core.List.{List, [], _∷_}
 use lib.Dec.{eqb}
 use Rattle.octets.specs.Choice.{if_then_else_}

@@ -1,10 +1,9 @@
 -- Parts of parts: where what an element says lies in the body.
-use mathlib.Core.Path.{_≡_, ap, _∙_}
+use mathlib.Core.Path.{_≡_, _∙_}
 use mathlib.Core.List.{List}
-use Prim.Native.Nat.{ℕ, _+_, _-_, _≤_, min}
+use Prim.Native.Nat.{ℕ, _+_, _-_}
 use native.Mathlib.Omega.{arith}
-use lib.ListN.{length, take, drop, length-take, length-drop}
-use lib.Seq.{drop-drop, take-take}
+use lib.ListN.{length, drop, length-take, length-drop}
 use Rattle.elements.specs.declared.Part.{Part}
 use Rattle.elements.specs.declared.Times.{Times}
 use Rattle.elements.specs.declared.Times.the-variants.{One}

@@ -1,5 +1,5 @@
 -- An enum at a match: what is known of the variant that the code goes on with, and what the enum is otherwise.
-use mathlib.Core.Path.{_≡_, refl, subst}
+use mathlib.Core.Path.{_≡_, subst}
 use mathlib.Core.Logic.{_⊎_, ⊎-elim}
 use Prim.Native.Nat.{ℕ}
 use native.Mathlib.Omega.{arith}

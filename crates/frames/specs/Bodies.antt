@@ -1,11 +1,10 @@
 -- The operations on bodies.
 use Prim.Native.Nat.{ℕ, _-_}
-use mathlib.Core.Bool.{Bool, _&&_, _||_, not}
+use mathlib.Core.Bool.{_&&_, _||_}
 use mathlib.Core.List.{List, _++_}
 use lib.Dec.{eqb, ltb}
 use lib.ListN.{length, take, drop, replicate}
 use Rattle.octets.specs.Choice.{if_then_else_}
-use Rattle.elements.specs.declared.Header.{Header}
 use Rattle.elements.specs.declared.Opened.{Opened}
 use Rattle.elements.specs.declared.Part.{Part}
 use Rattle.elements.specs.declared.Scan.{Scan}

@@ -1,7 +1,7 @@
 -- The first frame, step 1. Ill: the walk fails; a Fragment; RSNE, Timeout, PASN Parameters or Wrapped Data twice; RSNE or PASN Parameters missing; one of
 -- these ill-formed; wrapped format 4 or more; Wrapped Data present with format 0 or absent with 1 to 3; B1 clear. MIC is ignored.
 use Prim.Native.Nat.{ℕ}
-use mathlib.Core.Bool.{Bool, true, false, _&&_, not}
+use mathlib.Core.Bool.{Bool, false, _&&_, not}
 use mathlib.Core.List.{List}
 use lib.Dec.{eqb, ltb}
 use Rattle.octets.specs.Choice.{if_then_else_}

@@ -1,6 +1,6 @@
 -- The second frame: RSNE, Timeout, PASN Parameters, MIC of zeros, each where the last one ended. A refusal is its header alone.
 use Prim.Native.Nat.{ℕ, _+_, _<_, _≤_}
-use mathlib.Core.List.{List, [], _∷_, _++_}
+use mathlib.Core.List.{List, _++_}
 use Rattle.octets.specs.Numbers.{octets}
 use Rattle.layouts.specs.Mic.{micOctets}
 use Rattle.layouts.specs.Parameters.{parametersOctets}

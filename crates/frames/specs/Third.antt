@@ -1,7 +1,7 @@
 -- The third frame, but for the comparison of its MIC. Ill: the walk fails; a Fragment; PASN Parameters or MIC missing or twice; Parameters ill-formed, B0 or
 -- B1 set or format not 0; Wrapped Data present; MIC of another length. RSNE and Timeout are ignored.
 use Prim.Native.Nat.{ℕ, _-_}
-use mathlib.Core.Bool.{Bool, _&&_}
+use mathlib.Core.Bool.{_&&_}
 use mathlib.Core.List.{List}
 use lib.Dec.{eqb}
 use Rattle.octets.specs.Choice.{if_then_else_}

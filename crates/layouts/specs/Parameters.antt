@@ -1,7 +1,7 @@
 -- PASN Parameters after the extension ID: control (B0 comeback, B1 group and key, the rest ignored), wrapped format, with B0 a cookie length octet
 -- and the cookie, with B1 group (2), key length (1), key. No octets beyond.
 use Prim.Native.Nat.{ℕ, _+_, _-_, _/_, _%_}
-use mathlib.Core.Bool.{Bool, not}
+use mathlib.Core.Bool.{not}
 use mathlib.Core.List.{List, [], _∷_, _++_}
 use lib.Dec.{ltb, eqb}
 use lib.ListN.{length, getD}
@@ -9,7 +9,6 @@ use Rattle.octets.specs.Choice.{if_then_else_}
 use Rattle.octets.specs.Numbers.{le, octets}
 use Rattle.layouts.specs.declared.parameters.Comeback.{Comeback}
 use Rattle.layouts.specs.declared.parameters.Offer.{Offer}
-use Rattle.layouts.specs.declared.parameters.Parameters.{Parameters}
 use Rattle.layouts.specs.declared.parameters.Reading.{Reading}
 use Rattle.layouts.specs.declared.parameters.Reading.the-variants.{Is, Ill}
 

@@ -5,8 +5,8 @@ use Prim.Native.Nat.{ℕ, zero, suc, _+_, _-_, _*_, _/_, _%_, _^_, _<_, _≤_}
 use native.Mathlib.Nat.{pow-succ', pow-le-pow-right, add-zero}
 use native.Mathlib.Numerals.{add-one}
 use native.Mathlib.Omega.{arith}
-use lib.ListN.{length, getD, take, drop, set, List·getD-append, length-append}
-use lib.Seq.{getD-drop, getD-take, getD-append-add, set-at, drop-cons}
+use lib.ListN.{length, getD, take, drop, List·getD-append}
+use lib.Seq.{getD-drop, getD-take, getD-append-add}
 use Rattle.octets.specs.Numbers.{le, octets}
 
 -- Reading looks at its own octets only.

@@ -6,7 +6,7 @@ use native.Mathlib.Omega.{arith}
 use native.Mathlib.Numerals.{add-one}
 use lib.ListN.{length, take, drop, set, length-append, length-drop, length-set, take-append-drop}
 use lib.Seq.{length-take-le, take-all, drop-drop, drop-length, drop-cons, set-at, take-at, drop-at}
-use borrow.Rule.Slice.PartMut.{putMid, midOf, same-len-mid}
+use borrow.Rule.Slice.PartMut.{putMid}
 use Rattle.octets.specs.Wrote.{Wrote}
 
 -- How far a loop has come that writes d from the front: `written` stands there, and d was d₀.

@@ -1,12 +1,10 @@
 -- What a body gets, by what is known of its header and of its peer.
-use mathlib.Core.Path.{_≡_, refl, sym, ap, subst, _∙_}
+use mathlib.Core.Path.{_≡_, refl, sym, ap, _∙_}
 use mathlib.Core.Bool.{Bool, true, false, not, false≢true, true≢false}
-use mathlib.Core.List.{List, []}
+use mathlib.Core.List.{[]}
 use mathlib.Core.Option.{Option, none, some}
 use Prim.Native.Nat.{ℕ}
 use borrow.Author.Tests.{eq-eqb, ne-eqb}
-use Rattle.octets.specs.Wrote.{Wrote}
-use Rattle.octets.proofs.Parts.{wrote-none}
 use Rattle.elements.specs.declared.Header.{Header}
 use Rattle.elements.specs.declared.Opened.{Opened}
 use Rattle.peers.specs.declared.Peer.{Peer}
@@ -15,8 +13,8 @@ use Rattle.peers.specs.declared.Phase.the-variants.{Waiting, Installed}
 use Rattle.rules.specs.declared.Answer.{Answer}
 use Rattle.rules.specs.declared.Leaves.{Leaves}
 use Rattle.rules.specs.declared.Verdict.{Verdict}
-use Rattle.rules.specs.OnePeer.{Call, Outcome, unchanged, withoutWaiting, steps, firstOn, firstFrame, thirdFrame, byTransaction, onBody}
-use Rattle.rules.specs.Told.{leftOf, Only, Gets, Decides, firstFor}
+use Rattle.rules.specs.OnePeer.{Call, unchanged, withoutWaiting, steps, firstOn, firstFrame, thirdFrame, byTransaction, onBody}
+use Rattle.rules.specs.Told.{leftOf, Only, Decides, firstFor}
 use Rattle.platform.specs.Promises.{isWaiting}
 use Rattle.platform.specs.Inside.{isInstalled}
 use Rattle.platform.proofs.Calls.{broughtOf, firstCall}

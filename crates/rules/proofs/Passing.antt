@@ -10,7 +10,6 @@ use Rattle.suites.specs.declared.Akm.{Akm}
 use Rattle.suites.specs.declared.AkmEntry.{AkmEntry}
 use Rattle.suites.specs.declared.Group.{Group}
 use Rattle.suites.specs.declared.GroupEntry.{GroupEntry}
-use Rattle.suites.specs.declared.Suite.{Suite}
 use Rattle.suites.specs.declared.Suite.the-variants.{Ours, Other}
 use Rattle.suites.specs.Tables.{akmOf, groupOf, isKeyOf}
 use Rattle.suites.proofs.Laws.{akm-found, group-found}

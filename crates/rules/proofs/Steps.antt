@@ -1,6 +1,6 @@
 -- What a step came to, where its code tells it by a struct.
 use mathlib.Core.Path.{_≡_, sym, _∙_}
-use mathlib.Core.Bool.{Bool, true, false}
+use mathlib.Core.Bool.{true, false}
 use mathlib.Core.List.{List}
 use Prim.Native.Nat.{ℕ}
 use Rattle.rules.specs.declared.first.PmkidStep.{PmkidStep}

@@ -1,10 +1,10 @@
 -- The one-peer rules: what a call gets, by what it brings, this peer's live record or none, and whether sixteen others are live.
-use Prim.Native.Nat.{ℕ, _+_, _*_, _/_, _%_, min}
+use Prim.Native.Nat.{ℕ, _+_, _/_, _%_, min}
 use mathlib.Core.Bool.{Bool, true, false, _&&_, _||_, not}
-use mathlib.Core.List.{List, [], _∷_}
+use mathlib.Core.List.{List, []}
 use mathlib.Core.Option.{Option, none, some}
 use lib.Dec.{eqb, ltb, leb}
-use lib.ListN.{length, getD, take, drop, replicate}
+use lib.ListN.{length, getD, replicate}
 use Rattle.octets.specs.Choice.{if_then_else_}
 use Rattle.octets.specs.Equality.{sameOctets}
 use Rattle.octets.specs.Pieces.{pieces}
@@ -13,7 +13,6 @@ use Rattle.units.specs.declared.Tu.{Tu}
 use Rattle.units.specs.Units.{inTu, inClock}
 use Rattle.elements.specs.declared.Header.{Header}
 use Rattle.elements.specs.declared.Opened.{Opened}
-use Rattle.elements.specs.declared.Part.{Part}
 use Rattle.elements.specs.Body.{bodyOf}
 use Rattle.suites.specs.declared.Akm.{Akm}
 use Rattle.suites.specs.declared.AkmEntry.{AkmEntry}

@@ -1,8 +1,8 @@
 -- What the code's structs and enums tell, in the words of the one-peer rules.
-use Prim.Native.Nat.{ℕ, _+_, _<_, _≤_, _^_}
+use Prim.Native.Nat.{ℕ, _≤_, _^_}
 use mathlib.Core.Bool.{Bool, true, false}
 use mathlib.Core.List.{List, []}
-use mathlib.Core.Option.{Option, none, some}
+use mathlib.Core.Option.{Option}
 use mathlib.Core.Path.{_≡_}
 use lib.ListN.{length}
 use Rattle.octets.specs.Choice.{if_then_else_}
@@ -28,7 +28,7 @@ use Rattle.rules.specs.declared.first.Decision.{Decision}
 use Rattle.rules.specs.declared.first.KeySteps.{KeySteps}
 use Rattle.rules.specs.declared.first.PmkidStep.{PmkidStep}
 use Rattle.rules.specs.declared.first.SuiteSteps.{SuiteSteps}
-use Rattle.rules.specs.OnePeer.{Call, Left, same, gone, becomes, Outcome, unchanged, withoutWaiting, after, steps, firstOutcome, Step, refuse, pass, _>>=_, Suites, Passed, keySteps, step10, step11, lifetimeOf}
+use Rattle.rules.specs.OnePeer.{Call, Left, same, becomes, Outcome, unchanged, withoutWaiting, after, steps, firstOutcome, Step, refuse, pass, _>>=_, Suites, Passed, keySteps, step10, step11, lifetimeOf}
 
 abbrev pub cipherTold : CipherStep → Step ℕ
 cipherTold (CipherStep.Chosen kind) = pass kind

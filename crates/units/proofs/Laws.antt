@@ -1,5 +1,5 @@
 -- Laws of the conversion.
-use Prim.Native.Nat.{ℕ, _+_, _*_, _<_, _≤_}
+use Prim.Native.Nat.{_+_, _*_, _<_, _≤_}
 use native.Mathlib.Omega.{arith}
 use Rattle.units.specs.declared.Seconds.{Seconds}
 use Rattle.units.specs.Units.{inTu}

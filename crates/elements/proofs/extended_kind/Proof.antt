@@ -1,4 +1,4 @@
-use borrow.Author.Tests.{le-ltb, lt-ltb, le-leb, lt-leb, eq-eqb, ne-eqb}
+use borrow.Author.Tests.{eq-eqb, ne-eqb}
 use Rattle.elements.proofs.extended_kind.Statement.{statement}
 use Rattle.elements.proofs.extended_kind.Tie as tie
 

@@ -1,5 +1,4 @@
-use borrow.Author.Tests.{le-ltb, lt-ltb, le-leb, lt-leb, eq-eqb, ne-eqb}
-use mathlib.Core.Path.{refl}
+use borrow.Author.Tests.{le-ltb, lt-ltb}
 use Rattle.elements.specs.Body.{bodyOf}
 use borrow.Author.Needs.{needs}
 use Rattle.elements.proofs.open_body.Statement.{statement}

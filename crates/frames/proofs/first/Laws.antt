@@ -5,7 +5,6 @@ use mathlib.Core.List.{List}
 use Prim.Native.Nat.{ℕ, _+_}
 use lib.ListN.{length}
 use Rattle.octets.specs.Choice.{if_then_else_}
-use Rattle.elements.specs.declared.Part.{Part}
 use Rattle.elements.specs.declared.Places.{Places}
 use Rattle.elements.specs.declared.Scan.{Scan}
 use Rattle.elements.specs.declared.Times.{Times}
@@ -22,7 +21,7 @@ use Rattle.frames.specs.declared.contents.LifetimeReading.{LifetimeReadi
 use Rattle.frames.specs.declared.contents.Offered.{Offered}
 use Rattle.frames.specs.declared.first.First.{First}
 use Rattle.frames.specs.Contents.{content, extended, isNone, rsneAt, rsneIn, lifetimeIn, offeredWith, offeredBy, offeredIn}
-use Rattle.frames.specs.First.{wrappedFits, firstBy, firstIn, firstScanned, firstOf, FactsLie, FirstLies}
+use Rattle.frames.specs.First.{wrappedFits, firstBy, firstIn, firstScanned, firstOf, FirstLies}
 use Rattle.frames.proofs.Inner.{rsne-lies, key-lies}
 
 abbrev RsneLies : ℕ → rsne.Reading → Type 0

@@ -5,7 +5,6 @@ use Rattle.octets.proofs.Parts.{Writing, writing-none, writing-more, wr
 use Prim.Native.Nat.{ℕ, _≤_, _-_, _/_, _%_}
 use mathlib.Core.List.{[], _∷_, _++_}
 use borrow.Author.Needs.{needs}
-use lib.ListN.{length}
 use Rattle.octets.specs.Numbers.{octets}
 use Rattle.octets.proofs.put_le.Statement.{statement}
 use Rattle.octets.proofs.put_le.Tie as tie

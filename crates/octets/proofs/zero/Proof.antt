@@ -1,6 +1,6 @@
 use mathlib.Core.Path.{sym}
 use native.Mathlib.Omega.{arith}
-use lib.ListN.{length, replicate, replicate-append-replicate}
+use lib.ListN.{replicate, replicate-append-replicate}
 use Rattle.octets.proofs.Parts.{Writing, writing-none, writing-more, writing-done}
 use Prim.Native.Nat.{_≤_, _-_}
 use borrow.Author.Needs.{needs}

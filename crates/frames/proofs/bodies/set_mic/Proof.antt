@@ -1,6 +1,6 @@
 use mathlib.Core.Path.{sym, _∙_}
 use native.Mathlib.Omega.{arith}
-use lib.ListN.{length, length-take, length-drop}
+use lib.ListN.{length-take, length-drop}
 use borrow.Author.Tests.{eq-eqb, ne-eqb}
 use Rattle.frames.specs.Bodies.{setAnswer, setOctets}
 use Rattle.frames.proofs.bodies.Laws.{mic-lies, mic-set}

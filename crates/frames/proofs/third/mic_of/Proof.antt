@@ -1,7 +1,6 @@
 use borrow.Author.Tests.{eq-eqb, ne-eqb}
 use mathlib.Core.Path.{refl, sym}
 use Rattle.elements.specs.declared.Times.{Times}
-use Rattle.elements.specs.Within.{Ordered}
 use Rattle.frames.specs.Third.{micOf}
 use Rattle.frames.proofs.Otherwise.{not-one}
 use borrow.Author.Needs.{needs}

@@ -1,6 +1,5 @@
-use borrow.Author.Tests.{le-ltb, lt-ltb, le-leb, lt-leb, eq-eqb, ne-eqb}
+use borrow.Author.Tests.{le-ltb, lt-ltb, eq-eqb, ne-eqb}
 use native.Mathlib.Omega.{arith}
-use mathlib.Core.Path.{_∙_}
 use Rattle.layouts.specs.Parameters.{parametersOf}
 use borrow.Author.Needs.{needs}
 use Rattle.layouts.proofs.parameters.read.Statement.{statement}

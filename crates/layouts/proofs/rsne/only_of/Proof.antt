@@ -1,4 +1,4 @@
-use borrow.Author.Tests.{le-ltb, lt-ltb, le-leb, lt-leb, eq-eqb, ne-eqb}
+use borrow.Author.Tests.{eq-eqb, ne-eqb}
 use borrow.Author.Needs.{needs}
 use Rattle.layouts.proofs.rsne.only_of.Statement.{statement}
 use Rattle.layouts.proofs.rsne.only_of.Tie as tie

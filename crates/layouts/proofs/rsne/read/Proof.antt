@@ -1,4 +1,4 @@
-use mathlib.Core.Path.{_≡_, sym, _∙_}
+use mathlib.Core.Path.{sym, _∙_}
 use native.Mathlib.Omega.{arith}
 use Rattle.layouts.specs.Rsne.{pairwiseCount}
 use Rattle.layouts.proofs.rsne.Laws.{ill-version, ill-length, akms, pmkids, good}

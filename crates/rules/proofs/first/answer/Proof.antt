@@ -1,9 +1,7 @@
 use Rattle.rules.proofs.Accepting.{gets-same, refused-same, writable, cached-same, uncached-same}
-use mathlib.Core.Path.{_≡_, subst}
+use mathlib.Core.Path.{_≡_}
 use native.Mathlib.Omega.{arith}
 use lib.ListN.{length}
-use Rattle.rules.specs.OnePeer.{Outcome}
-use Rattle.rules.specs.Told.{Gets}
 use Prim.Native.Nat.{ℕ}
 use borrow.Author.Needs.{needs, length-unmapped}
 use Rattle.rules.proofs.first.answer.Statement.{statement}

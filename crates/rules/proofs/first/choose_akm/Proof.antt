@@ -1,4 +1,4 @@
-use mathlib.Core.Path.{sym, ap, _∙_}
+use mathlib.Core.Path.{sym, _∙_}
 use borrow.Author.Needs.{needs}
 use Rattle.rules.proofs.first.choose_akm.Statement.{statement}
 use Rattle.rules.proofs.first.choose_akm.Tie as tie

@@ -1,7 +1,3 @@
-use mathlib.Core.Path.{_≡_, ap}
-use Prim.Native.Nat.{ℕ, min}
-use native.Mathlib.Omega.{arith}
-use Rattle.units.specs.declared.Seconds.{Seconds}
 use Rattle.rules.proofs.Lifetimes.{shorter, no-longer}
 use borrow.Author.Needs.{needs}
 use Rattle.rules.proofs.first.lifetime_of.Statement.{statement}

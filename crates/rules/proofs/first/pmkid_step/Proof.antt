@@ -2,7 +2,7 @@ use mathlib.Core.Path.{sym, ap, _∙_}
 use mathlib.Core.List.{List}
 use Prim.Native.Nat.{ℕ}
 use Rattle.cache.specs.File.{recordsOf}
-use Rattle.rules.specs.OnePeer.{Step, pass}
+use Rattle.rules.specs.OnePeer.{pass}
 use Rattle.rules.proofs.Pmkids.{in-list, that-part}
 use borrow.Author.Needs.{needs}
 use Rattle.rules.proofs.first.pmkid_step.Statement.{statement}

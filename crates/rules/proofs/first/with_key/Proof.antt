@@ -1,5 +1,4 @@
-use mathlib.Core.Path.{sym, ap, _∙_}
-use native.Mathlib.Omega.{arith}
+use mathlib.Core.Path.{_∙_}
 use borrow.Author.Tests.{not-true, not-false}
 use Rattle.rules.specs.Told.{withKey}
 use Rattle.rules.proofs.Steps.{pmkid-refused, pmkid-passed}

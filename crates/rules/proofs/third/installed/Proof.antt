@@ -1,4 +1,4 @@
-use mathlib.Core.Path.{_≡_, ap}
+use mathlib.Core.Path.{ap}
 use Prim.Native.Nat.{_^_}
 use Rattle.units.specs.declared.Tu.{Tu}
 use native.Mathlib.Omega.{arith}

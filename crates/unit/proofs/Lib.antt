@@ -1,0 +1,4 @@
+pub mod Mapping
+pub mod Crossed
+pub mod Statuses
+pub mod Keys

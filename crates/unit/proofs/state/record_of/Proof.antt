@@ -1,0 +1,21 @@
+use borrow.Author.Needs.{needs}
+use Rattle.unit.specs.Crossing.{recordOf}
+use Rattle.unit.proofs.state.record_of.Statement.{statement}
+use Rattle.unit.proofs.state.record_of.Tie as tie
+
+yes-number-requires : tie.Need-yes-number-requires
+yes-number-requires c κs = search needs
+
+phase-number-requires : tie.Need-phase-number-requires
+phase-number-requires c κs = search needs
+
+until-of-requires : tie.Need-until-of-requires
+until-of-requires c κs = search needs
+
+returns : tie.Need-returns
+unfolding recordOf
+returns c = rw (c .before .before .yes-number .ensures, c .before .phase-number .ensures, c .until-of .ensures)
+
+pub record-of-spec : {M : Type 1} → statement M
+record-of-spec =
+    tie.close (tie.spec yes-number-requires phase-number-requires until-of-requires returns)

@@ -1,0 +1,72 @@
+use Prim.Native.Nat.{_-_}
+use mathlib.Core.Path.{_≡_, refl}
+use borrow.Author.Needs.{needs}
+use Rattle.peers.proofs.Places.{long}
+use Rattle.unit.specs.Crossing.{recordOf}
+use Rattle.unit.proofs.Mapping.{Mapping, mapping-begins, mapping-goes, mapping-ends}
+use Rattle.unit.proofs.Crossed.{is-state}
+use Rattle.unit.proofs.state.state_of.Statement.{statement}
+use Rattle.unit.proofs.state.state_of.Tie as tie
+
+abbrev Inv-loop : tie.InvT-loop
+Inv-loop t s₀ i₀ s i = Mapping recordOf (t .peers) (s .records) i × (s .«latest_tu» ≡ s₀ .«latest_tu»)
+
+abbrev μ-loop : tie.MeasureT-loop
+μ-loop t s₀ i₀ s i = 16 - i
+
+vacant-requires : tie.Need-vacant-requires Inv-loop μ-loop
+vacant-requires c κs = search needs
+
+record-of-requires : tie.Need-record-of-requires Inv-loop μ-loop
+record-of-requires c κs = search needs
+
+loop-holds : tie.Need-loop-holds Inv-loop μ-loop
+loop-holds c = (mapping-begins recordOf _ _ (search (needs, long)) refl, refl)
+
+mul-p : tie.Need-mul-p Inv-loop μ-loop
+mul-p c = search needs
+
+element-copy-out-p : tie.Need-element-copy-out-p Inv-loop μ-loop
+element-copy-out-p c = search needs
+
+record-of-requires-2 : tie.Need-record-of-requires-2 Inv-loop μ-loop
+record-of-requires-2 c κs = search needs
+
+mul-t11 : tie.Need-mul-t11 Inv-loop μ-loop
+mul-t11 c = search needs
+
+element-set-from-s : tie.Need-element-set-from-s Inv-loop μ-loop
+element-set-from-s c = search needs
+
+add-i : tie.Need-add-i Inv-loop μ-loop
+add-i c = search needs
+
+loop-less : tie.Need-loop-less Inv-loop μ-loop
+loop-less c = search needs
+
+loop-again : tie.Need-loop-again Inv-loop μ-loop
+loop-again c =
+    let p = c .before .before .before in
+    (mapping-goes recordOf _ _ (p .loop .inv .0) (c .before .before .loop-test .taken) (c .record-of2 .ensures), p .loop .inv .1)
+
+returns : tie.Need-returns Inv-loop μ-loop
+returns c = is-state _ _ (mapping-ends recordOf (c .before .loop .inv .0) (c .loop-test .left)) (c .before .loop .inv .1)
+
+pub state-of-spec : {M : Type 1} → statement M
+state-of-spec =
+    tie.close
+    (tie.spec
+    Inv-loop
+    μ-loop
+    vacant-requires
+    record-of-requires
+    loop-holds
+    mul-p
+    element-copy-out-p
+    record-of-requires-2
+    mul-t11
+    element-set-from-s
+    add-i
+    loop-less
+    loop-again
+    returns)

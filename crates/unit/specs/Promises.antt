@@ -1,0 +1,68 @@
+-- What the exported operations promise: what the platform's promise of the table that the state is, told in numbers.
+use Prim.Native.Nat.{ℕ, _+_, _≤_}
+use mathlib.Core.Path.{_≡_}
+use mathlib.Core.List.{List}
+use mathlib.Core.Option.{Option, none, some}
+use lib.ListN.{length}
+use Rattle.elements.specs.declared.Part.{Part}
+use Rattle.frames.specs.Bodies.{keyPart}
+use Rattle.rules.specs.declared.Answer.{Answer}
+use Rattle.rules.specs.declared.Brought.{Brought}
+use Rattle.rules.specs.declared.Settings.{Settings}
+use Rattle.rules.specs.OnePeer.{numberOf, statusOf}
+use Rattle.platform.specs.declared.Received.{Received}
+use Rattle.platform.specs.declared.Removed.{Removed}
+use Rattle.platform.specs.declared.LookedUp.{LookedUp}
+use Rattle.platform.specs.Promises.{removalNumber, lookNumber}
+use Rattle.unit.specs.declared.HostSettings.{HostSettings}
+use Rattle.unit.specs.declared.HostCall.{HostCall}
+use Rattle.unit.specs.declared.ReceiveResult.{ReceiveResult}
+use Rattle.unit.specs.declared.RemoveResult.{RemoveResult}
+use Rattle.unit.specs.declared.LookUpResult.{LookUpResult}
+use Rattle.unit.specs.declared.KeyPlace.{KeyPlace}
+use Rattle.unit.specs.Crossing.{isYes, recordOf, stateOf}
+
+abbrev pub settingsOf : HostSettings → Settings
+settingsOf s = record {
+  pmkless = isYes (s .«allow_pmkless»);
+  ciphers = s .«allow_ciphers»;
+  lifetime = record { 0 = s .«lifetime_seconds» };
+  deadline = record { 0 = s .«deadline_tu» };
+}
+
+abbrev pub broughtOf : HostCall → Brought
+broughtOf call = record {
+  settings = settingsOf (call .settings);
+  reading = record { 0 = call .«reading_tu» };
+  address = call .address;
+  point = isYes (call .«point_valid»);
+}
+
+-- the status beside 11, and 0 beside any other answer
+abbrev pub orZero : Option ℕ → ℕ
+orZero none = 0
+orZero (some n) = n
+
+abbrev pub statusNumber : Answer → ℕ
+statusNumber answer = orZero (statusOf answer)
+
+abbrev pub receiveResultOf : Received → ReceiveResult
+receiveResultOf r = record { answer = numberOf (r .answer); status = statusNumber (r .answer); length = r .length; state = stateOf (r .table) }
+
+abbrev pub removeResultOf : Removed → RemoveResult
+removeResultOf r = record { answer = removalNumber (r .answer); state = stateOf (r .table) }
+
+abbrev pub lookUpResultOf : LookedUp → LookUpResult
+lookUpResultOf r = record { answer = lookNumber (r .answer); shown = recordOf (r .peer) }
+
+-- r tells an outcome that is as promised
+pub record Told {A B : Type 0} (Promised : A → Type 0) (tell : A → B) (r : B) : Type 0 where
+  pub outcome : A
+  pub promised : Promised outcome
+  pub told : r ≡ tell outcome
+
+-- The key's place in the body: where it begins and how many octets it has, and 0 and 0 where no key is shown.
+pub record KeyAt (body : List ℕ) (r : KeyPlace) : Type 0 where
+  pub start : r .start ≡ keyPart body .start
+  pub end : r .start + r .length ≡ keyPart body .end
+  pub within : r .start + r .length ≤ length body

@@ -1,0 +1,209 @@
+// The archive for a unit's firmware: the platform's operations as C calls them. Numbers, arrays and slices cross, and nothing is kept between calls.
+ghost use mathlib.Core.Path.{_≡_};
+ghost use lib.ListN.{length};
+ghost use Rattle.frames.specs.Bodies.{numberOf, zeroAnswer, zeroed, setAnswer, setOctets};
+ghost use Rattle.peers.specs.Promises.{Nobody};
+ghost use Rattle.platform.specs.Promises.{callOf, Receives, Removes, LooksUp};
+ghost use Rattle.unit.specs.Crossing.{tableOf};
+ghost use Rattle.unit.specs.Promises.{settingsOf, broughtOf, statusNumber, receiveResultOf, removeResultOf, lookUpResultOf, Told, KeyAt};
+
+mod state;
+
+use platform::LookedUp;
+use platform::Received;
+use platform::Removed;
+use rules::Answer;
+use rules::Brought;
+use rules::Settings;
+use state::Record;
+use state::State;
+use units::Seconds;
+use units::Tu;
+
+// What the host allows. The ciphers 4, 8, 9 and 10 are the flags 1, 2, 4 and 8.
+#[repr(C)]
+pub struct HostSettings {
+    pub allow_pmkless: u8,
+    pub allow_ciphers: u8,
+    pub lifetime_seconds: u32,
+    pub deadline_tu: u64,
+}
+
+// What a receive brings, beside its slices.
+#[repr(C)]
+pub struct HostCall {
+    pub settings: HostSettings,
+    pub reading_tu: u64,
+    pub address: [u8; 6],
+    pub point_valid: u8,
+}
+
+#[repr(C)]
+pub struct ReceiveResult {
+    pub answer: u8,
+    pub status: u16,
+    pub length: usize,
+    pub state: State,
+}
+
+#[repr(C)]
+pub struct RemoveResult {
+    pub answer: u8,
+    pub state: State,
+}
+
+#[repr(C)]
+pub struct LookUpResult {
+    pub answer: u8,
+    pub shown: Record,
+}
+
+#[repr(C)]
+pub struct KeyPlace {
+    pub start: usize,
+    pub length: usize,
+}
+
+fn settings_of(s: HostSettings) -> Settings
+    ensures { λ r. ⌜ r ≡ settingsOf s ⌝ }
+{
+    Settings {
+        pmkless: state::is_yes(s.allow_pmkless),
+        ciphers: s.allow_ciphers,
+        lifetime: Seconds(s.lifetime_seconds),
+        deadline: Tu(s.deadline_tu),
+    }
+}
+
+fn brought_of(call: HostCall) -> Brought
+    ensures { λ r. ⌜ r ≡ broughtOf call ⌝ }
+{
+    let address = call.address;
+    let settings = call.settings;
+    Brought {
+        settings: settings_of(settings),
+        reading: Tu(call.reading_tu),
+        address: address,
+        point: state::is_yes(call.point_valid),
+    }
+}
+
+fn status_number(answer: Answer) -> u16
+    ensures { λ r. ⌜ r ≡ statusNumber answer ⌝ }
+{
+    match answer {
+        Answer::Refused(status) => status,
+        _ => 0,
+    }
+}
+
+fn receive_result(r: Received) -> ReceiveResult
+    ensures { λ told. ⌜ told ≡ receiveResultOf r ⌝ }
+{
+    let answer = r.answer;
+    let table = r.table;
+    ReceiveResult {
+        answer: platform::answer_number(answer),
+        status: status_number(answer),
+        length: r.length,
+        state: state::state_of(table),
+    }
+}
+
+fn remove_result(r: Removed) -> RemoveResult
+    ensures { λ told. ⌜ told ≡ removeResultOf r ⌝ }
+{
+    let answer = r.answer;
+    let table = r.table;
+    RemoveResult {
+        answer: platform::removal_number(answer),
+        state: state::state_of(table),
+    }
+}
+
+fn look_up_result(r: LookedUp) -> LookUpResult
+    ensures { λ told. ⌜ told ≡ lookUpResultOf r ⌝ }
+{
+    let answer = r.answer;
+    let peer = r.peer;
+    LookUpResult {
+        answer: platform::look_number(answer),
+        shown: state::record_of(peer),
+    }
+}
+
+#[no_mangle]
+pub extern "C" fn galebeacon_empty() -> State
+    ensures { λ r. ⌜ Nobody (tableOf r) ⌝ }
+{
+    state::state_of(platform::empty())
+}
+
+#[no_mangle]
+pub extern "C" fn galebeacon_receive(
+    state: State,
+    call: HostCall,
+    cache: &[u8],
+    key: &[u8],
+    mic: &[u8],
+    body: &[u8],
+    reply: &mut [u8],
+) -> ReceiveResult
+    ensures { λ r. ⌜ Told (Receives (tableOf state) (callOf (broughtOf call) (now (cache .entry)) (now (key .entry)) (now (mic .entry)) (now (body .entry)) (length (now (reply .entry)))) (now (reply .entry)) (now (reply .exit))) receiveResultOf r ⌝ }
+{
+    let t = state::table_of(state);
+    let brought = brought_of(call);
+    let received = platform::receive(t, brought, cache, key, mic, body, reply);
+    receive_result(received)
+}
+
+#[no_mangle]
+pub extern "C" fn galebeacon_look_up(
+    state: State,
+    address: &[u8; 6],
+    reading_tu: u64,
+) -> LookUpResult
+    ensures { λ r. ⌜ Told (LooksUp (tableOf state) (now (address .entry)) (record { 0 = «reading_tu» })) lookUpResultOf r ⌝ }
+{
+    let a = *address;
+    look_up_result(platform::look_up(state::table_of(state), a, Tu(reading_tu)))
+}
+
+#[no_mangle]
+pub extern "C" fn galebeacon_remove(
+    state: State,
+    address: &[u8; 6],
+    reading_tu: u64,
+) -> RemoveResult
+    ensures { λ r. ⌜ Told (Removes (tableOf state) (now (address .entry)) (record { 0 = «reading_tu» })) removeResultOf r ⌝ }
+{
+    let a = *address;
+    remove_result(platform::remove(state::table_of(state), a, Tu(reading_tu)))
+}
+
+#[no_mangle]
+pub extern "C" fn galebeacon_show_key(body: &[u8]) -> KeyPlace
+    ensures { λ r. ⌜ KeyAt (now (body .entry)) r ⌝ }
+{
+    let part = frames::bodies::key_part(body);
+    KeyPlace {
+        start: part.start,
+        length: part.end - part.start,
+    }
+}
+
+#[no_mangle]
+pub extern "C" fn galebeacon_zero_mic(body: &[u8], out: &mut [u8]) -> u8
+    ensures answers { λ r. ⌜ r ≡ numberOf (zeroAnswer (now (body .entry)) (length (now (out .entry)))) ⌝ }
+    ensures leaves { λ _. ⌜ now (out .exit) ≡ zeroed (now (body .entry)) (now (out .entry)) ⌝ }
+{
+    frames::bodies::number_of(platform::zero_mic(body, out))
+}
+
+#[no_mangle]
+pub extern "C" fn galebeacon_set_mic(body: &mut [u8], mic: &[u8]) -> u8
+    ensures answers { λ r. ⌜ r ≡ numberOf (setAnswer (now (body .entry)) (now (mic .entry))) ⌝ }
+    ensures leaves { λ _. ⌜ now (body .exit) ≡ setOctets (now (body .entry)) (now (mic .entry)) ⌝ }
+{
+    frames::bodies::number_of(platform::set_mic(body, mic))
+}

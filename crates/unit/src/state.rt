@@ -1,0 +1,137 @@
+// The state that a host keeps: numbers of which any octets are a legal value, and the table that they are.
+ghost use mathlib.Core.Path.{_≡_};
+ghost use Rattle.unit.specs.Crossing.{isYes, yesNumber, phaseOf, phaseNumber, peerOf, recordOf, tableOf, stateOf};
+ghost use Rattle.peers.specs.View.{until};
+use peers::Peer;
+use peers::Phase;
+use peers::Table;
+use units::Seconds;
+use units::Tu;
+
+// A record. `phase` 0 is waiting and anything else installed; `until_tu` is the deadline of the one, the end of the other.
+#[repr(C)]
+pub struct Record {
+    pub address: [u8; 6],
+    pub pmkid: [u8; 16],
+    pub has_pmkid: u8,
+    pub phase: u8,
+    pub cipher: u8,
+    pub akm: u8,
+    pub lifetime_seconds: u32,
+    pub until_tu: u64,
+}
+
+#[repr(C)]
+pub struct State {
+    pub records: [Record; 16],
+    pub latest_tu: u64,
+}
+
+// No bool crosses: 0 is no, anything else yes.
+pub fn is_yes(n: u8) -> bool
+    ensures { λ r. ⌜ r ≡ isYes n ⌝ }
+{
+    n != 0
+}
+
+fn yes_number(yes: bool) -> u8
+    ensures { λ r. ⌜ r ≡ yesNumber yes ⌝ }
+{
+    if yes {
+        return 1;
+    }
+    0
+}
+
+fn phase_of(phase: u8, end: u64) -> Phase
+    ensures { λ r. ⌜ r ≡ phaseOf phase end ⌝ }
+{
+    if phase == 0 {
+        return Phase::Waiting(Tu(end));
+    }
+    Phase::Installed(Tu(end))
+}
+
+fn phase_number(phase: Phase) -> u8
+    ensures { λ r. ⌜ r ≡ phaseNumber phase ⌝ }
+{
+    match phase {
+        Phase::Waiting(_) => 0,
+        Phase::Installed(_) => 1,
+    }
+}
+
+fn until_of(phase: Phase) -> u64
+    ensures { λ r. ⌜ r ≡ until phase .0 ⌝ }
+{
+    match phase {
+        Phase::Waiting(deadline) => deadline.0,
+        Phase::Installed(end) => end.0,
+    }
+}
+
+fn peer_of(r: Record) -> Peer
+    ensures { λ p. ⌜ p ≡ peerOf r ⌝ }
+{
+    let address = r.address;
+    let pmkid = r.pmkid;
+    Peer {
+        address: address,
+        pmkid: pmkid,
+        cached: is_yes(r.has_pmkid),
+        phase: phase_of(r.phase, r.until_tu),
+        cipher: r.cipher,
+        akm: r.akm,
+        lifetime: Seconds(r.lifetime_seconds),
+    }
+}
+
+pub fn record_of(p: Peer) -> Record
+    ensures { λ r. ⌜ r ≡ recordOf p ⌝ }
+{
+    let address = p.address;
+    let pmkid = p.pmkid;
+    let phase = p.phase;
+    let lifetime = p.lifetime;
+    Record {
+        address: address,
+        pmkid: pmkid,
+        has_pmkid: yes_number(p.cached),
+        phase: phase_number(phase),
+        cipher: p.cipher,
+        akm: p.akm,
+        lifetime_seconds: lifetime.0,
+        until_tu: until_of(phase),
+    }
+}
+
+pub fn table_of(s: State) -> Table
+    ensures { λ r. ⌜ r ≡ tableOf s ⌝ }
+{
+    let v = peers::vacant();
+    let mut t = Table {
+        peers: [v; 16],
+        latest: Tu(s.latest_tu),
+    };
+    for i in 0..16 {
+        let r = s.records[i];
+        t.peers[i] = peer_of(r);
+    }
+    t
+}
+
+pub fn state_of(t: Table) -> State
+    ensures { λ r. ⌜ r ≡ stateOf t ⌝ }
+{
+    let latest = t.latest;
+    let v = record_of(peers::vacant());
+    let mut s = State {
+        records: [v; 16],
+        latest_tu: latest.0,
+    };
+    for i in 0..16 {
+        let p = t.peers[i];
+        s.records[i] = record_of(p);
+    }
+    s
+}

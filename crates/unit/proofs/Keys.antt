@@ -3,7 +3,6 @@ use Prim.Native.Nat.{ℕ, _-_}
 use mathlib.Core.Path.{refl}
 use mathlib.Core.List.{List}
 use native.Mathlib.Omega.{arith}
-use Rattle.elements.specs.declared.Part.{Part}
 use Rattle.frames.specs.Bodies.{keyPart}
 use Rattle.frames.proofs.bodies.Laws.{key-part-lies}
 use Rattle.unit.specs.Promises.{KeyAt}

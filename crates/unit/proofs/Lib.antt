@@ -1,4 +1,6 @@
+pub mod Cases
 pub mod Mapping
 pub mod Crossed
 pub mod Statuses
 pub mod Keys
+pub mod Shown

@@ -3,9 +3,10 @@ use Prim.Native.Nat.{ℕ, _+_, _≤_}
 use mathlib.Core.Path.{_≡_}
 use mathlib.Core.List.{List}
 use mathlib.Core.Option.{Option, none, some}
-use lib.ListN.{length}
-use Rattle.elements.specs.declared.Part.{Part}
+use lib.ListN.{length, replicate}
+use Rattle.units.specs.declared.Tu.{Tu}
 use Rattle.frames.specs.Bodies.{keyPart}
+use Rattle.peers.specs.declared.Table.{Table}
 use Rattle.rules.specs.declared.Answer.{Answer}
 use Rattle.rules.specs.declared.Brought.{Brought}
 use Rattle.rules.specs.declared.Settings.{Settings}
@@ -13,13 +14,14 @@ use Rattle.rules.specs.OnePeer.{numberOf, statusOf}
 use Rattle.platform.specs.declared.Received.{Received}
 use Rattle.platform.specs.declared.Removed.{Removed}
 use Rattle.platform.specs.declared.LookedUp.{LookedUp}
-use Rattle.platform.specs.Promises.{removalNumber, lookNumber}
+use Rattle.platform.specs.Promises.{removalNumber, lookNumber, LooksUp}
 use Rattle.unit.specs.declared.HostSettings.{HostSettings}
 use Rattle.unit.specs.declared.HostCall.{HostCall}
 use Rattle.unit.specs.declared.ReceiveResult.{ReceiveResult}
 use Rattle.unit.specs.declared.RemoveResult.{RemoveResult}
 use Rattle.unit.specs.declared.LookUpResult.{LookUpResult}
 use Rattle.unit.specs.declared.KeyPlace.{KeyPlace}
+use Rattle.unit.specs.declared.state.Record.{Record}
 use Rattle.unit.specs.Crossing.{isYes, recordOf, stateOf}
 
 abbrev pub settingsOf : HostSettings → Settings
@@ -66,3 +68,21 @@ pub record KeyAt (body : List ℕ) (r : KeyPlace) : Type 0 where
   pub start : r .start ≡ keyPart body .start
   pub end : r .start + r .length ≡ keyPart body .end
   pub within : r .start + r .length ≤ length body
+
+-- the record that is all zeros
+abbrev pub zeros : Record
+zeros = record {
+  address = replicate 6 0;
+  pmkid = replicate 16 0;
+  «has_pmkid» = 0;
+  phase = 0;
+  cipher = 0;
+  akm = 0;
+  «lifetime_seconds» = 0;
+  «until_tu» = 0;
+}
+
+-- Beside an answer other than 18, the record that a look-up tells is zeros.
+abbrev pub ZerosUnlessShown : Type 0
+ZerosUnlessShown = (t : Table) (address : List ℕ) (n : Tu) (r : LookUpResult) → Told (LooksUp t address n) lookUpResultOf r
+    → (r .answer ≡ 18 → ⊥) → r .shown ≡ zeros

@@ -129,9 +129,9 @@ pub fn state_of(t: Table) -> State
         records: [v; 16],
         latest_tu: latest.0,
     };
-    for i in 0..16 {
-        let p = t.peers[i];
-        s.records[i] = record_of(p);
+    for place in 0..16 {
+        let p = t.peers[place];
+        s.records[place] = record_of(p);
     }
     s
 }

@@ -1,5 +1,6 @@
 use Prim.Native.Nat.{_-_}
 use mathlib.Core.Path.{_≡_, refl}
+use native.Mathlib.Omega.{arith}
 use borrow.Author.Needs.{needs}
 use Rattle.peers.proofs.Places.{long}
 use Rattle.unit.specs.Crossing.{recordOf}
@@ -9,10 +10,10 @@ use Rattle.unit.proofs.state.state_of.Statement.{statement}
 use Rattle.unit.proofs.state.state_of.Tie as tie
 
 abbrev Inv-loop : tie.InvT-loop
-Inv-loop t s₀ i₀ s i = Mapping recordOf (t .peers) (s .records) i × (s .«latest_tu» ≡ s₀ .«latest_tu»)
+Inv-loop t s₀ place₀ s place = Mapping recordOf (t .peers) (s .records) place × (s .«latest_tu» ≡ s₀ .«latest_tu»)
 
 abbrev μ-loop : tie.MeasureT-loop
-μ-loop t s₀ i₀ s i = 16 - i
+μ-loop t s₀ place₀ s place = 16 - place
 
 vacant-requires : tie.Need-vacant-requires Inv-loop μ-loop
 vacant-requires c κs = search needs
@@ -38,8 +39,8 @@ mul-t11 c = search needs
 element-set-from-s : tie.Need-element-set-from-s Inv-loop μ-loop
 element-set-from-s c = search needs
 
-add-i : tie.Need-add-i Inv-loop μ-loop
-add-i c = search needs
+add-place : tie.Need-add-place Inv-loop μ-loop
+add-place c = search needs
 
 loop-less : tie.Need-loop-less Inv-loop μ-loop
 loop-less c = search needs
@@ -47,7 +48,7 @@ loop-less c = search needs
 loop-again : tie.Need-loop-again Inv-loop μ-loop
 loop-again c =
     let p = c .before .before .before in
-    (mapping-goes recordOf _ _ (p .loop .inv .0) (c .before .before .loop-test .taken) (c .record-of2 .ensures), p .loop .inv .1)
+    (mapping-goes recordOf _ _ (p .loop .inv .0) (omega arith) (c .record-of2 .ensures), p .loop .inv .1)
 
 returns : tie.Need-returns Inv-loop μ-loop
 returns c = is-state _ _ (mapping-ends recordOf (c .before .loop .inv .0) (c .loop-test .left)) (c .before .loop .inv .1)
@@ -66,7 +67,7 @@ state-of-spec =
     record-of-requires-2
     mul-t11
     element-set-from-s
-    add-i
+    add-place
     loop-less
     loop-again
     returns)

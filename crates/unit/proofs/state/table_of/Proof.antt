@@ -1,5 +1,6 @@
 use Prim.Native.Nat.{_-_}
 use mathlib.Core.Path.{_≡_, refl}
+use native.Mathlib.Omega.{arith}
 use borrow.Author.Needs.{needs}
 use Rattle.peers.proofs.Places.{long}
 use Rattle.unit.specs.Crossing.{peerOf}
@@ -44,7 +45,7 @@ loop-less c = search needs
 loop-again : tie.Need-loop-again Inv-loop μ-loop
 loop-again c =
     let p = c .before .before .before in
-    (mapping-goes peerOf _ _ (p .loop .inv .0) (c .before .before .loop-test .taken) (c .peer-of .ensures), p .loop .inv .1)
+    (mapping-goes peerOf _ _ (p .loop .inv .0) (omega arith) (c .peer-of .ensures), p .loop .inv .1)
 
 returns : tie.Need-returns Inv-loop μ-loop
 returns c = is-table _ _ (mapping-ends peerOf (c .before .loop .inv .0) (c .loop-test .left)) (c .before .loop .inv .1)

@@ -1,0 +1,130 @@
+/* One exchange with a station, from its first frame to its removal. What the radio chip would lend is made up. */
+#include <stdio.h>
+#include <stdlib.h>
+#include <string.h>
+
+#include "galebeacon.h"
+
+/* a station's first frame: SAE with a PMK that the unit has, CCMP-128, a key lifetime of 3,600 seconds, and a public key of 33 octets */
+static const uint8_t first_frame[] = {
+    7, 0, 1, 0, 0, 0,                     /* algorithm PASN, transaction 1, status 0 */
+    48, 42, 1, 0, 0x00, 0x0f, 0xac, 7,    /* RSNE: version 1, group cipher 7 */
+    1, 0, 0x00, 0x0f, 0xac, 4,            /* one pairwise cipher */
+    1, 0, 0x00, 0x0f, 0xac, 8,            /* one AKM */
+    0xc0, 0, 1, 0,                        /* capabilities: protected management frames; one PMKID */
+    1, 2, 3, 4, 5, 6, 7, 8, 9, 10, 11, 12, 13, 14, 15, 16,
+    0x00, 0x0f, 0xac, 7,                  /* group management cipher 7 */
+    56, 5, 2, 0x10, 0x0e, 0, 0,           /* Timeout Interval: key lifetime, 3,600 seconds */
+    255, 39, 100, 2, 0, 19, 0, 33,        /* PASN Parameters: group 19 and a key of 33 octets */
+    2, 0x5a, 0x5a, 0x5a, 0x5a, 0x5a, 0x5a, 0x5a, 0x5a, 0x5a, 0x5a, 0x5a, 0x5a, 0x5a, 0x5a, 0x5a, 0x5a,
+    0x5a, 0x5a, 0x5a, 0x5a, 0x5a, 0x5a, 0x5a, 0x5a, 0x5a, 0x5a, 0x5a, 0x5a, 0x5a, 0x5a, 0x5a, 0x5a
+};
+
+/* its third frame, with a MIC of 16 times AA */
+static const uint8_t third_frame[] = {
+    7, 0, 3, 0, 0, 0,
+    255, 3, 100, 0, 0,
+    140, 16, 0xaa, 0xaa, 0xaa, 0xaa, 0xaa, 0xaa, 0xaa, 0xaa, 0xaa, 0xaa, 0xaa, 0xaa, 0xaa, 0xaa, 0xaa, 0xaa
+};
+
+/* the unit's PMKs: one record, for SAE, good until 2^40 TU */
+static const uint8_t cache[] = {
+    0x31, 25, 0,
+    1, 2, 3, 4, 5, 6, 7, 8, 9, 10, 11, 12, 13, 14, 15, 16,
+    8, 0, 0, 0, 0, 0, 1, 0, 0
+};
+
+static const uint8_t station[6] = {0x02, 0x00, 0x00, 0x00, 0x00, 0x07};
+
+static void expect(const char *call, unsigned answer, unsigned wanted) {
+    printf("%-26s %u\n", call, answer);
+    if (answer != wanted) {
+        fprintf(stderr, "exchange: %s answers %u, and %u was expected\n", call, answer, wanted);
+        exit(1);
+    }
+}
+
+static void print_octets(const char *name, const uint8_t *octets, size_t length) {
+    size_t i;
+    printf("%s", name);
+    for (i = 0; i < length; i++) printf("%s%02x", i % 32 == 0 ? "\n    " : "", octets[i]);
+    printf("\n");
+}
+
+static galebeacon_call call_at(uint64_t reading_tu, int point_valid) {
+    galebeacon_call call;
+    memset(&call, 0, sizeof call);
+    call.settings.allow_ciphers = GALEBEACON_ALLOW_CCMP_128 | GALEBEACON_ALLOW_GCMP_256;
+    call.settings.lifetime_seconds = 86400;
+    call.settings.deadline_tu = 1000;
+    call.reading_tu = reading_tu;
+    memcpy(call.address, station, sizeof station);
+    call.point_valid = (uint8_t)point_valid;
+    return call;
+}
+
+static void look_up(galebeacon_state state, uint64_t reading_tu, unsigned wanted) {
+    galebeacon_look_up_result r = galebeacon_look_up(state, station, reading_tu);
+    expect("look up", r.answer, wanted);
+    if (r.answer == GALEBEACON_SHOWN)
+        printf("    %s, cipher %u, AKM %u, %s, %lu seconds, until %llu TU\n",
+               r.shown.phase == GALEBEACON_WAITING ? "waiting" : "installed", r.shown.cipher, r.shown.akm,
+               r.shown.has_pmkid ? "with a PMKID" : "no PMKID", (unsigned long)r.shown.lifetime_seconds, (unsigned long long)r.shown.until_tu);
+}
+
+/* The first frame is answered by the second. No MIC is lent with it: a slice of no octets still has a pointer. */
+static void first(galebeacon_state *state, uint8_t *reply, size_t reply_length) {
+    uint8_t own_key[33], mic[GALEBEACON_MIC];
+    galebeacon_receive_result r;
+    galebeacon_key_place key = galebeacon_show_key(first_frame, sizeof first_frame);
+    printf("the key begins at %lu and has %lu octets\n", (unsigned long)key.start, (unsigned long)key.length);
+    memset(own_key, 0x77, sizeof own_key);
+    own_key[0] = 3;
+    memset(mic, 0xbb, sizeof mic);
+    r = galebeacon_receive(*state, call_at(5000, 1), cache, sizeof cache, own_key, sizeof own_key, mic, 0,
+                           first_frame, sizeof first_frame, reply, reply_length);
+    *state = r.state;
+    expect("receive the first frame", r.answer, GALEBEACON_ACCEPTED);
+    expect("set the second frame's MIC", galebeacon_set_mic(reply, r.length, mic, sizeof mic), GALEBEACON_MIC_DONE);
+    print_octets("the second frame", reply, r.length);
+}
+
+static void third(galebeacon_state *state, uint64_t reading_tu, uint8_t *reply, size_t reply_length, unsigned wanted) {
+    uint8_t input[sizeof third_frame], mic[GALEBEACON_MIC];
+    galebeacon_receive_result r;
+    expect("zero the third frame's MIC", galebeacon_zero_mic(third_frame, sizeof third_frame, input, sizeof input), GALEBEACON_MIC_DONE);
+    memset(mic, 0xaa, sizeof mic); /* what the chip makes of `input` */
+    r = galebeacon_receive(*state, call_at(reading_tu, 0), cache, sizeof cache, mic, 0, mic, sizeof mic,
+                           third_frame, sizeof third_frame, reply, reply_length);
+    *state = r.state;
+    expect("receive the third frame", r.answer, wanted);
+}
+
+/* A first frame that is cut short is refused, with a status and a reply of 6 octets. */
+static void refused(galebeacon_state *state, uint64_t reading_tu, uint8_t *reply, size_t reply_length) {
+    galebeacon_receive_result r = galebeacon_receive(*state, call_at(reading_tu, 1), cache, sizeof cache, cache, 0, cache, 0,
+                                                     first_frame, sizeof first_frame - 1, reply, reply_length);
+    *state = r.state;
+    expect("receive a cut first frame", r.answer, GALEBEACON_REFUSED);
+    expect("    with the status", r.status, 40);
+    print_octets("the refusal", reply, r.length);
+}
+
+int main(void) {
+    static uint8_t reply[GALEBEACON_SMALLEST_REPLY];
+    galebeacon_state state = galebeacon_empty();
+    galebeacon_remove_result gone;
+    look_up(state, 4000, GALEBEACON_NO_RECORD);
+    refused(&state, 4500, reply, sizeof reply);
+    first(&state, reply, sizeof reply);
+    look_up(state, 5000, GALEBEACON_SHOWN);
+    third(&state, 5003, reply, sizeof reply, GALEBEACON_INSTALLED);
+    look_up(state, 5003, GALEBEACON_SHOWN);
+    third(&state, 5004, reply, sizeof reply, GALEBEACON_NO_EXCHANGE);
+    look_up(state, 5003, GALEBEACON_CLOCK);
+    gone = galebeacon_remove(state, station, 6000);
+    state = gone.state;
+    expect("remove", gone.answer, GALEBEACON_REMOVED);
+    look_up(state, 6000, GALEBEACON_NO_RECORD);
+    return 0;
+}

@@ -3,8 +3,8 @@
 //! installed keys are frequent. Fixed buffers; nothing but `core` is used.
 
 use crate::responder::{
-    Address, Phase, Pmkid, Seconds, Settings, Table, Tu, AKM_PASN, CACHE_RECORD, CIPHERS,
-    LAST_READING, LEAST_REPLY, MIC_LENGTH,
+    Address, Arrival, Lent, Phase, Pmkid, Seconds, Settings, Table, Tu, AKM_PASN, CACHE_RECORD,
+    CIPHERS, LAST_READING, LEAST_REPLY, MIC_LENGTH,
 };
 
 /// splitmix64.
@@ -76,7 +76,7 @@ impl<const N: usize> Octets<N> {
         self.length = 0;
     }
 
-    fn put(&mut self, octets: &[u8]) {
+    pub fn put(&mut self, octets: &[u8]) {
         let taken = octets.len().min(N - self.length);
         self.octets[self.length..self.length + taken].copy_from_slice(&octets[..taken]);
         self.length += taken;
@@ -177,6 +177,23 @@ pub struct Call {
     pub second_length: usize,
 }
 
+impl Call {
+    pub fn arrival(&self) -> Arrival<'_> {
+        Arrival {
+            settings: &self.setup.settings,
+            cache: self.setup.cache.as_slice(),
+            now: self.now,
+            address: self.address,
+            lent: Lent {
+                point_valid: self.setup.point_valid,
+                own_key: self.setup.own_key.as_slice(),
+                mic: self.setup.mic.as_slice(),
+            },
+            body: self.body.as_slice(),
+        }
+    }
+}
+
 const STATIONS: usize = 21;
 const GROUPS: [Address; 3] = [[1, 0, 0, 0, 0, 1], [0x33, 0, 0, 0, 0, 1], [0xff; 6]];
 const PMKIDS: usize = 8;
@@ -196,6 +213,7 @@ struct Season {
     pace: u64,
 }
 
+#[derive(Clone)]
 pub struct Generator {
     random: Random,
     stations: [Address; STATIONS],
@@ -204,7 +222,8 @@ pub struct Generator {
     clock: Tu,
     /// The set-up that faults depart from, for one call each.
     sound: Setup,
-    call: Call,
+    /// The call that `next` made last.
+    pub call: Call,
 }
 
 impl Generator {
@@ -552,6 +571,15 @@ impl Kind {
             Err(_) => Kind::Absent,
         }
     }
+}
+
+/// Every address that a call may name.
+pub fn addresses() -> [Address; STATIONS + GROUPS.len()] {
+    let mut addresses = [[0; 6]; STATIONS + GROUPS.len()];
+    let (stations, groups) = addresses.split_at_mut(STATIONS);
+    stations.copy_from_slice(&make_stations());
+    groups.copy_from_slice(&GROUPS);
+    addresses
 }
 
 /// Stations that differ in one octet each, in every place.

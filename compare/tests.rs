@@ -4,7 +4,7 @@
 mod generator;
 mod responder;
 
-use generator::{Call, Generator, Operation, Setup};
+use generator::{addresses, Call, Generator, Operation};
 use responder::*;
 
 const STATION: Address = [2, 0, 0, 0, 0, 1];
@@ -374,7 +374,7 @@ impl Reach {
     fn make(&mut self, call: &Call) -> Option<Answer> {
         let mut body = call.body.as_slice().to_vec();
         match call.operation {
-            Operation::Receive => Some(self.receive(&call.setup, call)),
+            Operation::Receive => Some(self.receive(call)),
             Operation::LookUp => match self.table.look_up(call.now, call.address) {
                 Ok(_) => Some(Answer::Found),
                 Err(answer) => Some(answer),
@@ -390,21 +390,9 @@ impl Reach {
         }
     }
 
-    fn receive(&mut self, setup: &Setup, call: &Call) -> Answer {
-        let arrival = Arrival {
-            settings: &setup.settings,
-            cache: setup.cache.as_slice(),
-            now: call.now,
-            address: call.address,
-            lent: Lent {
-                point_valid: setup.point_valid,
-                own_key: setup.own_key.as_slice(),
-                mic: setup.mic.as_slice(),
-            },
-            body: call.body.as_slice(),
-        };
-        let mut reply = vec![0; setup.reply_length];
-        let outcome = self.table.receive(&arrival, &mut reply);
+    fn receive(&mut self, call: &Call) -> Answer {
+        let mut reply = vec![0; call.setup.reply_length];
+        let outcome = self.table.receive(&call.arrival(), &mut reply);
         if let Some(step) = outcome.refused_at {
             self.steps[step as usize - 1] = true;
         }
@@ -429,4 +417,18 @@ fn generator_repeats_itself() {
         let (call, same) = (one.next(&table), other.next(&table));
         assert!(call.operation == same.operation && call.body == same.body);
     }
+}
+
+#[test]
+fn generator_names_no_other_address() {
+    let mut table = Table::empty();
+    let mut generator = Generator::new(3);
+    let mut named = [false; addresses().len()];
+    for _ in 0..5000 {
+        let call = generator.next(&table);
+        table.receive(&call.arrival(), &mut [0; 2048]);
+        let place = addresses().iter().position(|&known| known == call.address);
+        named[place.unwrap()] = true;
+    }
+    assert!(named.iter().all(|&named| named));
 }

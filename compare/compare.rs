@@ -130,7 +130,7 @@ impl Comparison {
         let since = self.calls - self.since_empty.calls;
         let mut out = File::output();
         out.print(format_args!(
-            "difference at call {} of seed {}, the {}th since an empty table\n",
+            "difference at call {} of seed {}, {} calls after an empty table\n",
             self.calls, self.seed, since
         ));
         if let Some((now, address)) = difference.look_up {

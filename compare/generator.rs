@@ -245,7 +245,7 @@ impl Generator {
                 operation: Operation::Empty,
                 setup: Setup::initial(),
                 now: Tu(0),
-                address: [0; 6],
+                address: make_stations()[0],
                 body: Octets::new(),
                 second_length: 0,
             },

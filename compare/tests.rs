@@ -423,7 +423,7 @@ fn generator_repeats_itself() {
 fn generator_names_no_other_address() {
     let mut table = Table::empty();
     let mut generator = Generator::new(3);
-    let mut named = [false; addresses().len()];
+    let mut named = addresses().map(|_| false);
     for _ in 0..5000 {
         let call = generator.next(&table);
         table.receive(&call.arrival(), &mut [0; 2048]);

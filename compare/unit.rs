@@ -59,8 +59,8 @@ struct RemoveResult {
 }
 
 #[repr(C)]
-struct LookUpResult {
-    answer: u8,
+pub struct LookUpResult {
+    pub answer: u8,
     shown: HostRecord,
 }
 
@@ -185,6 +185,11 @@ impl Unit {
             length: result.length,
         }
     }
+
+    pub fn look(&self, now: Tu, address: &Address) -> LookUpResult {
+        // SAFETY: the address is six octets.
+        unsafe { galebeacon_look_up(self.state, address, now.0) }
+    }
 }
 
 impl Side for Unit {
@@ -197,8 +202,7 @@ impl Side for Unit {
     }
 
     fn look_up(&self, now: Tu, address: Address) -> Result<Record, u8> {
-        // SAFETY: the address is six octets.
-        let result = unsafe { galebeacon_look_up(self.state, &address, now.0) };
+        let result = self.look(now, &address);
         match result.answer == Answer::Found as u8 {
             true => Ok(result.shown.record()),
             false => Err(result.answer),

@@ -13,49 +13,72 @@ use shared::responder::{self, Address, Answer, Arrival, Seconds, Settings, Table
 use shared::sides::{Buffers, Side};
 use shared::unit::{HostCall, Unit};
 
-const CASES: [Case; 6] = [
+const CASES: [Case; 8] = [
     Case {
         name: "first frame accepted, its PMKID the first of 64 in the cache",
         answer: Answer::FirstAccepted,
-        operation: Operation::Receive,
         body: Body::First { akm: 8, record: 0 },
+        ..RECEIVE
     },
     Case {
         name: "first frame accepted, its PMKID the last of 64 in the cache",
         answer: Answer::FirstAccepted,
-        operation: Operation::Receive,
         body: Body::First { akm: 8, record: 63 },
+        ..RECEIVE
     },
     Case {
-        name: "first frame refused with 43",
+        name: "first frame refused with 43, 64 in the cache",
         answer: Answer::FirstRefused,
-        operation: Operation::Receive,
         body: Body::First { akm: 7, record: 0 },
+        ..RECEIVE
     },
     Case {
-        name: "third frame accepted",
-        answer: Answer::Installed,
-        operation: Operation::Receive,
-        body: Body::Third,
+        name: "third frame accepted, 64 in the cache",
+        ..RECEIVE
+    },
+    Case {
+        name: "third frame accepted, the cache empty",
+        cached: 0,
+        ..RECEIVE
+    },
+    Case {
+        name: "receive answered 1, for its clock",
+        answer: Answer::Clock,
+        now: Tu(NOW.0 - 1),
+        ..RECEIVE
     },
     Case {
         name: "look-up of the last of sixteen records",
         answer: Answer::Found,
         operation: Operation::LookUp,
-        body: Body::Third,
+        ..RECEIVE
     },
     Case {
         name: "walk of 509 elements, none a MIC to zero",
         answer: Answer::MicRefused,
         operation: Operation::ZeroMic,
         body: Body::ManyElements,
+        ..RECEIVE
     },
 ];
+
+/// What most cases have.
+const RECEIVE: Case = Case {
+    name: "",
+    answer: Answer::Installed,
+    operation: Operation::Receive,
+    now: NOW,
+    cached: 64,
+    body: Body::Third,
+};
 
 struct Case {
     name: &'static str,
     answer: Answer,
     operation: Operation,
+    now: Tu,
+    /// Records in the cache.
+    cached: u8,
     body: Body,
 }
 
@@ -80,7 +103,7 @@ fn pmkid(record: u8) -> [u8; 16] {
     pmkid
 }
 
-fn setup() -> Setup {
+fn setup(cached: u8) -> Setup {
     let mut setup = Setup::initial();
     setup.settings = Settings {
         without_pmk: true,
@@ -88,7 +111,7 @@ fn setup() -> Setup {
         key_lifetime: Seconds(3600),
         exchange_deadline: Tu(1000),
     };
-    for record in 0..64 {
+    for record in 0..cached {
         setup.cache.put(&[0x31, 25, 0]);
         setup.cache.put(&pmkid(record));
         setup.cache.put(&[8]);
@@ -129,8 +152,8 @@ impl Case {
     fn call(&self) -> Call {
         Call {
             operation: self.operation,
-            setup: setup(),
-            now: NOW,
+            setup: setup(self.cached),
+            now: self.now,
             address: STATION,
             body: self.body.octets(),
             second_length: 2048,

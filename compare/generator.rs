@@ -829,7 +829,7 @@ struct Frame {
     control: u8,
     format: u8,
     cookie_length: u8,
-    cookie: Octets<40>,
+    cookie: Octets<128>,
     group: u16,
     key_length: u8,
     key: Octets<80>,
@@ -925,7 +925,7 @@ impl Frame {
         content
     }
 
-    fn parameters(&self) -> Octets<160> {
+    fn parameters(&self) -> Octets<256> {
         let mut content = Octets::new();
         content.put(&[100, self.control, self.format]);
         if self.control & 1 != 0 {
@@ -973,7 +973,7 @@ impl Generator {
             frame.status = self.random.word() as u16;
         }
         if self.random.percent(12) {
-            let length = self.random.pick(&[0, 1, 8, 32]);
+            let length = self.random.pick(&[0, 1, 8, 32, 128]);
             frame.set_cookie(length, &mut self.random);
         }
         frame.mic.put_random(MIC_LENGTH, &mut self.random);

@@ -207,7 +207,13 @@ uint8_t galebeacon_set_mic(uint8_t *body, size_t body_length, const uint8_t *mic
 
 /* ---- The layout that the archive was built with ------------------------------------------------------------------------------------------- */
 
+#if defined(__cplusplus) && __cplusplus >= 201103L
+#define GALEBEACON_ASSERT(name, fact) static_assert(fact, "the layout of galebeacon's " #name)
+#elif defined(__STDC_VERSION__) && __STDC_VERSION__ >= 201112L
+#define GALEBEACON_ASSERT(name, fact) _Static_assert(fact, "the layout of galebeacon's " #name)
+#else
 #define GALEBEACON_ASSERT(name, fact) typedef char galebeacon_assert_##name[(fact) ? 1 : -1]
+#endif
 GALEBEACON_ASSERT(size_t, sizeof(size_t) == 8);
 GALEBEACON_ASSERT(record, sizeof(galebeacon_record) == 40 && offsetof(galebeacon_record, lifetime_seconds) == 28 && offsetof(galebeacon_record, until_tu) == 32);
 GALEBEACON_ASSERT(state, sizeof(galebeacon_state) == 648 && offsetof(galebeacon_state, latest_tu) == 640);

@@ -1,14 +1,13 @@
 -- Laws of `sameOctets`: the test holds of equal strings and of no others.
-use Prim.Native.Nat.{ℕ, _+_, _≤_, _<_}
-use mathlib.Core.Path.{_≡_, refl, ap, ap₂, _∙_}
+use Prim.Native.Nat.{ℕ, suc, _-_, _≤_, _<_}
+use mathlib.Core.Path.{_≡_, refl, sym, ap, ap₂, _∙_}
 use mathlib.Core.List.{List, [], _∷_}
 use mathlib.Core.Bool.{Bool, true, false, _&&_, false≢true}
-use native.Mathlib.Numerals.{add-one}
 use native.Mathlib.Omega.{arith}
 use lib.Dec.{eqb}
 use lib.ListN.{length, getD, drop, drop-of-length-le}
 use lib.Seq.{drop-cons}
-use borrow.Author.Tests.{eqb-true, eq-eqb, ne-eqb}
+use borrow.Author.Tests.{eqb-true, eq-eqb}
 use Rattle.octets.specs.Equality.{sameOctets}
 
 pub same-refl : (a : List ℕ) → sameOctets a a ≡ true
@@ -25,24 +24,28 @@ same-eq (x ∷ xs) (y ∷ ys) e = go (same-eq xs ys) (eqb x y) refl e
     go ih true q e = ap₂ (λ (z : ℕ) (zs : List ℕ). z ∷ zs) (eqb-true x y q) (ih e)
     go ih false q e = absurd (false≢true e)
 
-pub differ : (a b : List ℕ) → (length a ≡ length b → ⊥) → false ≡ sameOctets a b
-differ a b h = go (sameOctets a b) refl
+pub unlike : (a b : List ℕ) → (a ≡ b → ⊥) → false ≡ sameOctets a b
+unlike a b h = go (sameOctets a b) refl
   where
     go : (t : Bool) → sameOctets a b ≡ t → false ≡ t
-    go true e = absurd (h (ap length (same-eq a b e)))
+    go true e = absurd (h (same-eq a b e))
     go false e = refl
 
--- A loop over both, at i, where they are as long as each other.
-module _ (a b : List ℕ) (i : ℕ) (h : i < length a) (k : length a ≡ length b) (inv : sameOctets a b ≡ sameOctets (drop i a) (drop i b)) where
-  same-step : sameOctets a b ≡ (eqb (getD a i 0) (getD b i 0) && sameOctets (drop (i + 1) a) (drop (i + 1) b))
-  same-step = inv ∙ (rw (add-one, drop-cons a i 0 h, drop-cons b i 0 (omega arith)))
+-- A loop over both from their end, which are as long as each other, and the same from i on.
+module _ (a b : List ℕ) (k : length a ≡ length b) where
+  pub same-begins : drop (length a) a ≡ drop (length a) b
+  same-begins = drop-of-length-le a {i = length a} (omega arith) ∙ sym (drop-of-length-le b {i = length a} (omega arith))
 
-  pub same-stops : (getD a i 0 ≡ getD b i 0 → ⊥) → false ≡ sameOctets a b
-  same-stops n = rw (same-step, ne-eqb _ _ n)
+  module _ (i : ℕ) (inv : drop i a ≡ drop i b) where
+    pub same-goes : 0 < i → i ≤ length a → getD a (i - 1) 0 ≡ getD b (i - 1) 0 → drop (i - 1) a ≡ drop (i - 1) b
+    same-goes h l e =
+        let n : suc (i - 1) ≡ i = omega arith in
+        drop-cons a (i - 1) 0 (omega arith)
+        ∙ ap₂ (λ (x : ℕ) (xs : List ℕ). x ∷ xs) e (ap (λ (j : ℕ). drop j a) n ∙ inv ∙ ap (λ (j : ℕ). drop j b) (sym n))
+        ∙ sym (drop-cons b (i - 1) 0 (omega arith))
 
-  pub same-goes : getD a i 0 ≡ getD b i 0 → sameOctets a b ≡ sameOctets (drop (i + 1) a) (drop (i + 1) b)
-  same-goes e = same-step ∙ rw (eq-eqb _ _ e)
-
-pub same-ends : (a b : List ℕ) (i : ℕ) → length a ≤ i → length a ≡ length b
-    → sameOctets a b ≡ sameOctets (drop i a) (drop i b) → true ≡ sameOctets a b
-same-ends a b i h k inv = rw (inv, drop-of-length-le a h, drop-of-length-le b {i = i} (omega arith))
+    pub same-ends : i ≤ 0 → true ≡ sameOctets a b
+    same-ends h =
+        let n : i ≡ 0 = omega arith in
+        let e : a ≡ b = ap (λ (j : ℕ). drop j a) (sym n) ∙ inv ∙ ap (λ (j : ℕ). drop j b) n in
+        sym (ap (sameOctets a) (sym e) ∙ same-refl a)

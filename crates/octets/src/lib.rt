@@ -79,19 +79,19 @@ pub fn put_le8(d: &mut [u8], n: u64) -> usize
     put_le(d, n, 8)
 }
 
-// Whether a and b, of any lengths, are the same octets.
+// Whether a and b, of any lengths, are the same octets. It looks at the last one first: addresses of one maker begin alike.
 pub fn same(a: &[u8], b: &[u8]) -> bool
     ensures { λ r. ⌜ r ≡ sameOctets (now (a .entry)) (now (b .entry)) ⌝ }
 {
     if a.len() != b.len() {
         return false;
     }
-    let mut i = 0;
-    while i < a.len() {
+    let mut i = a.len();
+    while i > 0 {
+        i -= 1;
         if a[i] != b[i] {
             return false;
         }
-        i += 1;
     }
     true
 }

@@ -110,33 +110,31 @@ pub fn find(t: Table, address: [u8; 6], reading: Tu) -> Found
 }
 
 // Stores p in the first place without a live record of another address, and clears the further ones. A full table stays as it is.
-pub fn put(t: Table, p: Peer, reading: Tu) -> Table
+pub fn put(mut t: Table, p: Peer, reading: Tu) -> Table
     ensures { λ r. ⌜ Puts t p reading r ⌝ }
 {
     let address = p.address;
-    let mut u = t;
     let mut next = p;
     for i in 0..16 {
-        let q = u.peers[i];
+        let q = t.peers[i];
         if !is_other(q, address, reading) {
-            u.peers[i] = next;
+            t.peers[i] = next;
             next = vacant();
         }
     }
-    u
+    t
 }
 
 // Clears every place that has the address.
-pub fn drop(t: Table, address: [u8; 6]) -> Table
+pub fn drop(mut t: Table, address: [u8; 6]) -> Table
     ensures { λ r. ⌜ Drops t address r ⌝ }
 {
     let blank = vacant();
-    let mut u = t;
     for place in 0..16 {
-        let q = u.peers[place];
+        let q = t.peers[place];
         if is_of(q, address) {
-            u.peers[place] = blank;
+            t.peers[place] = blank;
         }
     }
-    u
+    t
 }

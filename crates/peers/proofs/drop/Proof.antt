@@ -12,10 +12,10 @@ use Rattle.peers.proofs.drop.Statement.{statement}
 use Rattle.peers.proofs.drop.Tie as tie
 
 abbrev Inv-loop : tie.InvT-loop
-Inv-loop address blank u₀ place₀ u place = Filling (elsewhere address) vacantPeer u₀ vacantPeer u place
+Inv-loop address t₀ blank place₀ t place = Filling (elsewhere address) vacantPeer t₀ vacantPeer t place
 
 abbrev μ-loop : tie.MeasureT-loop
-μ-loop address blank u₀ place₀ u place = 16 - place
+μ-loop address t₀ blank place₀ t place = 16 - place
 
 vacant-requires : tie.Need-vacant-requires Inv-loop μ-loop
 vacant-requires c κs = search needs

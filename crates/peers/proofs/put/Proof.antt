@@ -10,10 +10,10 @@ use Rattle.peers.proofs.put.Statement.{statement}
 use Rattle.peers.proofs.put.Tie as tie
 
 abbrev Inv-loop : tie.InvT-loop
-Inv-loop reading address u₀ next₀ i₀ u next i = Filling (taken reading address) next₀ u₀ next u i
+Inv-loop reading t₀ address next₀ i₀ t next i = Filling (taken reading address) next₀ t₀ next t i
 
 abbrev μ-loop : tie.MeasureT-loop
-μ-loop reading address u₀ next₀ i₀ u next i = 16 - i
+μ-loop reading t₀ address next₀ i₀ t next i = 16 - i
 
 loop-holds : tie.Need-loop-holds Inv-loop μ-loop
 loop-holds c = filling-begins _ _ _ (search (needs, long))

@@ -20,7 +20,7 @@ use Rattle.elements.specs.declared.Scan.{Scan}
 use Rattle.elements.specs.Step.{stepAt}
 use Rattle.elements.specs.Walk.{Walk, walked, failedAt, _then_, walk, walkBody}
 use Rattle.elements.specs.Scan.{plainKind, kindBy, kindOf, number, isKind, ofKind, partOf, timesOf, placesOf, scanBy, scanOf}
-use Rattle.elements.specs.Noting.{seenOf, markOf, noteOf}
+use Rattle.elements.specs.Noting.{seenOf, markOf}
 use Rattle.elements.specs.Within.{Lies, LiesIf, Within}
 use Rattle.elements.proofs.Steps.{Stood}
 use Rattle.elements.proofs.Walk.{then-none, then-then, walk-stands, walk-ends, walk-fails, Each, EachOf, each-stood}
@@ -47,16 +47,6 @@ times-more k es e = go (isKind (kindOf e) k) ∙ ap timesOf (sym (kind-snoc k es
     go true = sym (times-snoc (ofKind k es) e)
     go false = ap timesOf (sym (append-nil (ofKind k es)))
 
-places-more : (es : List Element) (e : Element) → noteOf (placesOf es) (kindOf e) (partOf e) ≡ placesOf (es ++ (e ∷ []))
-unfolding placesOf
-places-more es e =
-    six (times-more Rsne es e) (times-more Timeout es e) (times-more Mic es e) (times-more Fragment es e) (times-more Parameters es e) (times-more Wrapped es e)
-  where
-    six : {a b c d e f a' b' c' d' e' f' : Times} → a ≡ a' → b ≡ b' → c ≡ c' → d ≡ d' → e ≡ e' → f ≡ f'
-        → _≡_ {A = Places} (record { rsne = a; timeout = b; mic = c; fragment = d; parameters = e; wrapped = f })
-        (record { rsne = a'; timeout = b'; mic = c'; fragment = d'; parameters = e'; wrapped = f' })
-    six p q r s t u = cc
-
 -- How far the scan has come: the walk from the start on is `seen` and then the walk from `at`, and p has the places of `seen`.
 pub record Scanned (s : List ℕ) (start : ℕ) (p : Places) (at : ℕ) : Type 0 where
   pub seen : List Element
@@ -67,13 +57,32 @@ pub scanned-none : (s : List ℕ) (start : ℕ) → Scanned s start (placesOf []
 scanned-none s start = record { seen = []; so-far = sym (then-none (walk s start)); marks = refl }
 
 module _ {s : List ℕ} {start : ℕ} {p : Places} {at : ℕ} (g : Scanned s start p at) where
-  pub scanned-more : (e : Element) {k : Kind} {q : Places} → stepAt s at ≡ Stands e → k ≡ kindOf e → q ≡ noteOf p k (partOf e)
-      → Scanned s start q (e .next)
-  scanned-more e {k} h i j = record {
-    seen = g .seen ++ (e ∷ []);
-    so-far = g .so-far ∙ ap (λ (w : Walk). g .seen then w) (walk-stands s at e h) ∙ sym (then-then (g .seen) (e ∷ []) (walk s (e .next)));
-    marks = j ∙ ap₂ (λ (p : Places) (k : Kind). noteOf p k (partOf e)) (g .marks) i ∙ places-more (g .seen) e;
-  }
+  -- an element of kind k, marked in each of the six
+  module _ (e : Element) {k : Kind} (h : stepAt s at ≡ Stands e) (i : k ≡ kindOf e) where
+    told : (l : Kind) {t u : Times} → t ≡ timesOf (ofKind l (g .seen)) → u ≡ markOf k l t (partOf e) → u ≡ timesOf (ofKind l (g .seen ++ (e ∷ [])))
+    told l m j = j ∙ ap₂ (λ (k : Kind) (t : Times). markOf k l t (partOf e)) i m ∙ times-more l (g .seen) e
+
+    pub scanned-more : {a b c d f w : Times} → a ≡ markOf k Rsne (p .rsne) (partOf e) → b ≡ markOf k Timeout (p .timeout) (partOf e)
+        → c ≡ markOf k Mic (p .mic) (partOf e) → d ≡ markOf k Fragment (p .fragment) (partOf e)
+        → f ≡ markOf k Parameters (p .parameters) (partOf e) → w ≡ markOf k Wrapped (p .wrapped) (partOf e)
+        → Scanned s start (record { rsne = a; timeout = b; mic = c; fragment = d; parameters = f; wrapped = w }) (e .next)
+    unfolding placesOf
+    scanned-more a b c d f w = record {
+      seen = g .seen ++ (e ∷ []);
+      so-far = g .so-far ∙ ap (λ (w : Walk). g .seen then w) (walk-stands s at e h) ∙ sym (then-then (g .seen) (e ∷ []) (walk s (e .next)));
+      marks = six
+          (told Rsne (ap (λ (p : Places). p .rsne) (g .marks)) a)
+          (told Timeout (ap (λ (p : Places). p .timeout) (g .marks)) b)
+          (told Mic (ap (λ (p : Places). p .mic) (g .marks)) c)
+          (told Fragment (ap (λ (p : Places). p .fragment) (g .marks)) d)
+          (told Parameters (ap (λ (p : Places). p .parameters) (g .marks)) f)
+          (told Wrapped (ap (λ (p : Places). p .wrapped) (g .marks)) w);
+    }
+      where
+        six : {a b c d f w a' b' c' d' f' w' : Times} → a ≡ a' → b ≡ b' → c ≡ c' → d ≡ d' → f ≡ f' → w ≡ w'
+            → _≡_ {A = Places} (record { rsne = a; timeout = b; mic = c; fragment = d; parameters = f; wrapped = w })
+            (record { rsne = a'; timeout = b'; mic = c'; fragment = d'; parameters = f'; wrapped = w' })
+        six p q r s t u = cc
 
   pub scanned-all : stepAt s at ≡ End → scanBy (walk s start) ≡ Scan.Walked p
   scanned-all h =

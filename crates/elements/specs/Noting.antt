@@ -1,11 +1,9 @@
 -- What the scan does at one element.
 use Rattle.octets.specs.Choice.{if_then_else_}
 use Rattle.elements.specs.declared.Kind.{Kind}
-use Rattle.elements.specs.declared.Kind.the-variants.{Rsne, Timeout, Mic, Fragment, Parameters, Wrapped}
 use Rattle.elements.specs.declared.Part.{Part}
 use Rattle.elements.specs.declared.Times.{Times}
 use Rattle.elements.specs.declared.Times.the-variants.{None, One, More}
-use Rattle.elements.specs.declared.Places.{Places}
 use Rattle.elements.specs.Scan.{isKind}
 
 -- one more of a kind
@@ -17,13 +15,3 @@ seenOf (More first) content = More first
 -- an element of the kind k, where those of the kind l are told
 abbrev pub markOf : Kind → Kind → Times → Part → Times
 markOf k l t content = if isKind k l then seenOf t content else t
-
-abbrev pub noteOf : Places → Kind → Part → Places
-noteOf p k content = record {
-  rsne = markOf k Rsne (p .rsne) content;
-  timeout = markOf k Timeout (p .timeout) content;
-  mic = markOf k Mic (p .mic) content;
-  fragment = markOf k Fragment (p .fragment) content;
-  parameters = markOf k Parameters (p .parameters) content;
-  wrapped = markOf k Wrapped (p .wrapped) content;
-}

@@ -2,8 +2,9 @@
 ghost use mathlib.Core.Path.{_≡_};
 ghost use Rattle.elements.specs.Body.{bodyOf};
 ghost use Rattle.elements.specs.Step.{stepAt};
-ghost use Rattle.elements.specs.Scan.{kindOf, plainKind, extendedKind, scanOf};
-ghost use Rattle.elements.specs.Noting.{seenOf, noteOf};
+ghost use Rattle.elements.specs.Scan.{kindOf, number, plainKind, extendedKind, scanOf};
+ghost use Rattle.elements.specs.declared.Times.the-variants.{More};
+ghost use Rattle.elements.specs.Noting.{seenOf, markOf};
 
 // The octets in front of a body's elements.
 pub const HEADER: usize = 6;
@@ -210,64 +211,49 @@ pub struct Places {
     pub wrapped: Times,
 }
 
+// The numbers serve to compare kinds.
+fn number_of(kind: Kind) -> u8
+    ensures { λ r. ⌜ r ≡ number kind ⌝ }
+{
+    match kind {
+        Kind::Rsne => 0,
+        Kind::Timeout => 1,
+        Kind::Mic => 2,
+        Kind::Fragment => 3,
+        Kind::Parameters => 4,
+        Kind::Wrapped => 5,
+        Kind::Skipped => 6,
+    }
+}
+
+// Number by number: a part that is copied whole goes through memory at each element.
+fn again(first: Part) -> Times
+    ensures { λ r. ⌜ r ≡ More first ⌝ }
+{
+    Times::More(Part {
+        start: first.start,
+        end: first.end,
+    })
+}
+
 fn seen(t: Times, content: Part) -> Times
     ensures { λ r. ⌜ r ≡ seenOf t content ⌝ }
 {
     match t {
         Times::None => Times::One(content),
-        Times::One(first) => Times::More(first),
-        Times::More(first) => Times::More(first),
+        Times::One(first) => again(first),
+        Times::More(first) => again(first),
     }
 }
 
-fn note(p: Places, kind: Kind, content: Part) -> Places
-    ensures { λ r. ⌜ r ≡ noteOf p kind content ⌝ }
+// What is told of the kind `of`, once an element of a kind is met.
+fn mark(kind: Kind, of: Kind, t: Times, content: Part) -> Times
+    ensures { λ r. ⌜ r ≡ markOf kind of t content ⌝ }
 {
-    match kind {
-        Kind::Rsne => {
-            let t = p.rsne;
-            Places {
-                rsne: seen(t, content),
-                ..p
-            }
-        }
-        Kind::Timeout => {
-            let t = p.timeout;
-            Places {
-                timeout: seen(t, content),
-                ..p
-            }
-        }
-        Kind::Mic => {
-            let t = p.mic;
-            Places {
-                mic: seen(t, content),
-                ..p
-            }
-        }
-        Kind::Fragment => {
-            let t = p.fragment;
-            Places {
-                fragment: seen(t, content),
-                ..p
-            }
-        }
-        Kind::Parameters => {
-            let t = p.parameters;
-            Places {
-                parameters: seen(t, content),
-                ..p
-            }
-        }
-        Kind::Wrapped => {
-            let t = p.wrapped;
-            Places {
-                wrapped: seen(t, content),
-                ..p
-            }
-        }
-        Kind::Skipped => p,
+    if number_of(kind) == number_of(of) {
+        return seen(t, content);
     }
+    t
 }
 
 // A walk over a whole body: the place of the element that it failed at, or what stands where.
@@ -285,20 +271,25 @@ pub fn scan_body(body: &[u8]) -> Scan
     if LONGEST_BODY < body.len() {
         return Scan::Failed(0);
     }
-    let mut places = Places {
-        rsne: Times::None,
-        timeout: Times::None,
-        mic: Times::None,
-        fragment: Times::None,
-        parameters: Times::None,
-        wrapped: Times::None,
-    };
+    let mut rsne = Times::None;
+    let mut timeout = Times::None;
+    let mut mic = Times::None;
+    let mut fragment = Times::None;
+    let mut parameters = Times::None;
+    let mut wrapped = Times::None;
     let mut at = HEADER;
     loop {
         let step = step_at(body, at);
         match step {
             Step::End => {
-                return Scan::Walked(places);
+                return Scan::Walked(Places {
+                    rsne: rsne,
+                    timeout: timeout,
+                    mic: mic,
+                    fragment: fragment,
+                    parameters: parameters,
+                    wrapped: wrapped,
+                });
             }
             Step::Failed => {
                 return Scan::Failed(at);
@@ -308,7 +299,13 @@ pub fn scan_body(body: &[u8]) -> Scan
                     start: e.start,
                     end: e.next,
                 };
-                places = note(places, kind_of(e), content);
+                let kind = kind_of(e);
+                rsne = mark(kind, Kind::Rsne, rsne, content);
+                timeout = mark(kind, Kind::Timeout, timeout, content);
+                mic = mark(kind, Kind::Mic, mic, content);
+                fragment = mark(kind, Kind::Fragment, fragment, content);
+                parameters = mark(kind, Kind::Parameters, parameters, content);
+                wrapped = mark(kind, Kind::Wrapped, wrapped, content);
                 at = e.next;
             }
         }

@@ -12,10 +12,12 @@ use Rattle.elements.proofs.scan_body.Statement.{statement}
 use Rattle.elements.proofs.scan_body.Tie as tie
 
 abbrev Inv-loop : tie.InvT-loop
-Inv-loop body places₀ at₀ places at = Scanned body 6 places at
+Inv-loop body rsne₀ timeout₀ mic₀ fragment₀ parameters₀ wrapped₀ at₀ rsne timeout mic fragment parameters wrapped at =
+    Scanned body 6 (record { rsne = rsne; timeout = timeout; mic = mic; fragment = fragment; parameters = parameters; wrapped = wrapped }) at
 
 abbrev μ-loop : tie.MeasureT-loop
-μ-loop body places₀ at₀ places at = length body - at
+μ-loop body rsne₀ timeout₀ mic₀ fragment₀ parameters₀ wrapped₀ at₀ rsne timeout mic fragment parameters wrapped at =
+    length body - at
 
 returns : tie.Need-returns Inv-loop μ-loop
 unfolding scanOf walkBody
@@ -56,21 +58,38 @@ enum-known-step c = search needs
 kind-of-requires : tie.Need-kind-of-requires Inv-loop μ-loop
 kind-of-requires c κs = search needs
 
-note-requires : tie.Need-note-requires Inv-loop μ-loop
-note-requires c κs = search needs
+mark-requires : tie.Need-mark-requires Inv-loop μ-loop
+mark-requires c κs = search needs
+
+mark-requires-2 : tie.Need-mark-requires-2 Inv-loop μ-loop
+mark-requires-2 c κs = search needs
+
+mark-requires-3 : tie.Need-mark-requires-3 Inv-loop μ-loop
+mark-requires-3 c κs = search needs
+
+mark-requires-4 : tie.Need-mark-requires-4 Inv-loop μ-loop
+mark-requires-4 c κs = search needs
+
+mark-requires-5 : tie.Need-mark-requires-5 Inv-loop μ-loop
+mark-requires-5 c κs = search needs
+
+mark-requires-6 : tie.Need-mark-requires-6 Inv-loop μ-loop
+mark-requires-6 c κs = search needs
 
 loop-less : tie.Need-loop-less Inv-loop μ-loop
 loop-less c =
-    let p = c .before .before .before in
+    let p = c .before .before .before .before .before .before .before .before in
     let q = p .before .before in
     omega (arith, stood (q .before .before .before .before .before .args .body .now) (q .before .loop .at) (p .step .given .0 .0) (sym (q .step-at .ensures) ∙ p .step .given .1))
 
 loop-again : tie.Need-loop-again Inv-loop μ-loop
 loop-again c =
-    let p = c .before .before .before in
+    let m = c .before .before .before .before .before in
+    let p = m .before .before .before in
     let q = p .before .before in
-    scanned-more (q .before .loop .inv) (p .step .given .0 .0) (sym (q .step-at .ensures) ∙ p .step .given .1)
-    (c .before .kind-of .ensures) (c .note .ensures)
+    scanned-more (q .before .loop .inv) (p .step .given .0 .0) (sym (q .step-at .ensures) ∙ p .step .given .1) (m .before .kind-of .ensures)
+    (m .mark .ensures) (c .before .before .before .before .mark2 .ensures) (c .before .before .before .mark3 .ensures)
+    (c .before .before .mark4 .ensures) (c .before .mark5 .ensures) (c .mark6 .ensures)
 
 pub scan-body-spec : {M : Type 1} → statement M
 scan-body-spec =
@@ -88,6 +107,11 @@ scan-body-spec =
     returns-4
     enum-known-step
     kind-of-requires
-    note-requires
+    mark-requires
+    mark-requires-2
+    mark-requires-3
+    mark-requires-4
+    mark-requires-5
+    mark-requires-6
     loop-less
     loop-again)

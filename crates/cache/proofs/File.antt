@@ -2,11 +2,11 @@
 use mathlib.Core.Path.{_≡_, refl, sym, ap, _∙_}
 use mathlib.Core.Bool.{true, false, false≢true}
 use mathlib.Core.List.{List, [], _∷_}
-use Prim.Native.Nat.{ℕ, zero, suc, _-_, _<_}
+use Prim.Native.Nat.{ℕ, zero, suc, _+_, _<_}
 use native.Mathlib.Omega.{arith}
-use Rattle.cache.specs.declared.Read.{Read}
-use Rattle.cache.specs.declared.Read.the-variants.{Stands, End, Ill}
-use Rattle.cache.specs.File.{readAt, Cached, cachedAt, Cache, records, illFormed, _before_, onward, cacheFrom, cacheOf, wellFormed, recordsIn, isWellFormed, recordsOf}
+use lib.ListN.{length}
+use Rattle.cache.specs.File.{Read, Stands, End, Ill, readAt, Cached, cachedAt, Cache, records, illFormed, _before_, onward, cacheFrom, cacheOf, wellFormed, recordsIn, isWellFormed, recordsOf}
+use Rattle.cache.proofs.Records.{stood, ended}
 
 -- what follows a record, where so many may come, that record among them
 abbrev later : ℕ → List ℕ → ℕ → Cache
@@ -39,10 +39,8 @@ module _ (more : ℕ) (file : List ℕ) (at : ℕ) where
     pub well-full : more ≡ 0 → wellFormed (cacheFrom more file at) ≡ false
     well-full e = well-later ∙ ap (λ (m : ℕ). wellFormed (later m file next)) e
 
-    pub well-record : 0 < more → wellFormed (cacheFrom more file at) ≡ wellFormed (cacheFrom (more - 1) file next)
-    well-record h =
-        let e : more ≡ suc (more - 1) = omega arith in
-        well-later ∙ ap (λ (m : ℕ). wellFormed (later m file next)) e
+    pub well-record : {m : ℕ} → more ≡ suc m → wellFormed (cacheFrom more file at) ≡ wellFormed (cacheFrom m file next)
+    well-record e = well-later ∙ ap (λ (m : ℕ). wellFormed (later m file next)) e
 
 records-same : {cs ds : List Cached} → records cs ≡ records ds → ds ≡ cs
 records-same e = cc
@@ -75,6 +73,15 @@ module _ {file : List ℕ} {at : ℕ} {cs : List Cached} (g : From file at cs) w
 
   pub not-ill : readAt file at ≡ Ill → ⊥
   not-ill q = ill-records (sym (from-by (g .more) file at q) ∙ g .are)
+
+  -- where octets are left, a record stands
+  pub still-stands : at < length file → readAt file at ≡ Stands (at + 3) (at + 28)
+  still-stands h = go (readAt file at) refl
+    where
+      go : (r : Read) → readAt file at ≡ r → r ≡ Stands (at + 3) (at + 28)
+      go (Stands v n) q = let s = stood file at q in rw (s .next, s .value)
+      go End q = absurd (omega (arith, ended file at q))
+      go Ill q = absurd (not-ill q)
 
   pub one-left : {value next : ℕ} → readAt file at ≡ Stands value next → Then file value next cs
   one-left {value} {next} q = go (g .more) (sym (from-by (g .more) file at q) ∙ g .are)

@@ -17,10 +17,8 @@ use Rattle.octets.proofs.Equality.{same-eq}
 use Rattle.octets.proofs.Logic.{both}
 use Rattle.octets.proofs.Numbers.{le-bound}
 use Rattle.units.specs.declared.Tu.{Tu}
-use Rattle.cache.specs.declared.Read.{Read}
-use Rattle.cache.specs.declared.Read.the-variants.{Stands, End, Ill}
 use Rattle.cache.specs.declared.Choice.{Choice}
-use Rattle.cache.specs.File.{readAt, Cached, cachedAt, Cache, records, illFormed, cacheFrom, cacheOf, recordsIn, recordsOf}
+use Rattle.cache.specs.File.{Read, Stands, End, Ill, readAt, Cached, cachedAt, Cache, records, illFormed, cacheFrom, cacheOf, recordsIn, recordsOf}
 use Rattle.cache.specs.Search.{matches, foundOf, choiceFrom, choiceOf}
 use Rattle.cache.proofs.Records.{stood}
 use Rattle.cache.proofs.File.{From, none-left, not-ill, one-left}

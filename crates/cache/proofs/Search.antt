@@ -8,19 +8,19 @@ use native.Mathlib.Numerals.{add-one}
 use native.Mathlib.Omega.{arith}
 use borrow.Author.Tests.{eq-eqb, ne-eqb}
 use lib.Dec.{ltb}
-use lib.ListN.{getD, take, drop, drop-of-length-le}
+use lib.ListN.{length, getD, take, drop, drop-of-length-le}
 use lib.Seq.{drop-cons}
 use Rattle.octets.specs.Equality.{sameOctets}
 use Rattle.octets.specs.Search.{first, entry}
 use Rattle.octets.specs.Pieces.{pieces}
 use Rattle.octets.proofs.Pieces.{length-pieces, piece-at}
 use Rattle.units.specs.declared.Tu.{Tu}
-use Rattle.cache.specs.declared.Read.the-variants.{Stands, End, Ill}
 use Rattle.cache.specs.declared.Found.{Found}
 use Rattle.cache.specs.declared.Choice.{Choice}
-use Rattle.cache.specs.File.{readAt, Cached, cachedAt, isWellFormed, recordsOf}
+use Rattle.cache.specs.File.{Cached, cachedAt, isWellFormed, recordsOf}
 use Rattle.cache.specs.Search.{matches, foundOf, told, choiceFrom, choiceOf}
-use Rattle.cache.proofs.File.{From, from-start, none-left, not-ill, one-left}
+use Rattle.cache.proofs.Records.{read-end, stood}
+use Rattle.cache.proofs.File.{From, from-start, none-left, still-stands, one-left}
 
 -- The tests of the record whose value starts at a place. Its PMKID is the part of the file up to its AKM.
 module _ (file : List ℕ) (value : ℕ) (pmkid : List ℕ) (akm : ℕ) (reading : Tu) where
@@ -47,22 +47,22 @@ pub searched-none : (f : Cached → Bool) (file : List ℕ) → isWellFormed fil
 searched-none f file h = record { left = recordsOf file; from = from-start file h; so-far = refl }
 
 module _ {f : Cached → Bool} {file : List ℕ} {at : ℕ} (g : Searched f file at) where
-  pub searched-all : readAt file at ≡ End → first f (recordsOf file) ≡ none
+  pub searched-all : length file ≤ at → first f (recordsOf file) ≡ none
   unfolding first
-  searched-all q = g .so-far ∙ ap (first f) (none-left (g .from) q)
+  searched-all h = g .so-far ∙ ap (first f) (none-left (g .from) (read-end file at h))
 
-  pub searched-ill : readAt file at ≡ Ill → ⊥
-  searched-ill q = not-ill (g .from) q
+  module _ (h : at < length file) where
+    pub searched-fits : at + 28 ≤ length file
+    searched-fits = stood file at (still-stands (g .from) h) .within
 
-  module _ {value next : ℕ} (q : readAt file at ≡ Stands value next) where
-    pub searched-stops : f (cachedAt file value) ≡ true → first f (recordsOf file) ≡ some (cachedAt file value)
+    pub searched-stops : f (cachedAt file (at + 3)) ≡ true → first f (recordsOf file) ≡ some (cachedAt file (at + 3))
     unfolding first
-    searched-stops e = g .so-far ∙ ap (first f) (one-left (g .from) q .are) ∙ rw e
+    searched-stops e = g .so-far ∙ ap (first f) (one-left (g .from) (still-stands (g .from) h) .are) ∙ rw e
 
-    pub searched-more : f (cachedAt file value) ≡ false → Searched f file next
+    pub searched-more : f (cachedAt file (at + 3)) ≡ false → Searched f file (at + 28)
     unfolding first
     searched-more e =
-        let t = one-left (g .from) q in
+        let t = one-left (g .from) (still-stands (g .from) h) in
         record { left = t .rest; from = t .from; so-far = g .so-far ∙ ap (first f) (t .are) ∙ rw e }
 
 -- How far the search of the list has come, which is `count` PMKIDs in the octets s: none before number k has a record that matches.

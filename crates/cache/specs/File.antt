@@ -6,14 +6,22 @@ use lib.Dec.{leb, eqb}
 use lib.ListN.{length, getD, take, drop}
 use Rattle.octets.specs.Choice.{if_then_else_}
 use Rattle.octets.specs.Numbers.{le}
-use Rattle.cache.specs.declared.Read.{Read}
-use Rattle.cache.specs.declared.Read.the-variants.{Stands, End, Ill}
 
--- What stands at a place: the end, or a whole record of tag 31 hex and length 25, or something ill-formed.
+-- What stands at a place. Of a record: where its value starts, and the place after it.
+pub data Read : Type 0 where
+  Stands : (value next : ℕ) → Read
+  End : Read
+  Ill : Read
+
+-- a record's tag and length stand at a place
+abbrev pub isRecord : List ℕ → ℕ → Bool
+isRecord file at = eqb (getD file at 0) 0x31 && eqb (le 2 file (at + 1)) 25
+
+-- the end, or a whole record of tag 31 hex and length 25, or something ill-formed
 abbrev pub readAt : List ℕ → ℕ → Read
 readAt file at =
     if leb (length file) at then End
-    else if leb 28 (length file - at) && (eqb (getD file at 0) 0x31 && eqb (le 2 file (at + 1)) 25) then Stands (at + 3) (at + 28)
+    else if leb 28 (length file - at) && isRecord file at then Stands (at + 3) (at + 28)
     else Ill
 
 -- what a record holds

@@ -4,7 +4,7 @@ ghost use mathlib.Core.Bool.{true};
 ghost use Prim.Native.Nat.{_+_, _/_, _≤_};
 ghost use lib.ListN.{length};
 ghost use Rattle.octets.specs.Pieces.{pieces};
-ghost use Rattle.cache.specs.File.{readAt, cachedAt, isWellFormed, recordsOf};
+ghost use Rattle.cache.specs.File.{isRecord, cachedAt, isWellFormed, recordsOf};
 ghost use Rattle.cache.specs.Search.{matches, foundOf, told, choiceOf};
 use units::Tu;
 
@@ -20,57 +20,35 @@ const MOST_RECORDS: usize = 64;
 // The octets of a PMKID, which a value begins with.
 const PMKID: usize = 16;
 
-// What stands at a place of the file. Of a record: where its value starts, and the place after it.
-enum Read {
-    Stands { value: usize, next: usize },
-    End,
-    Ill,
-}
-
-fn read_at(file: &[u8], at: usize) -> Read
-    ensures { λ r. ⌜ r ≡ readAt (now (file .entry)) at ⌝ }
+// Whether a record stands at a place, where its octets lie within the file.
+fn is_record(file: &[u8], at: usize) -> bool
+    requires { ⌜ at + 28 ≤ length (now file) ⌝ }
+    ensures { λ r. ⌜ r ≡ isRecord (now (file .entry)) at ⌝ }
 {
-    if file.len() <= at {
-        return Read::End;
-    }
-    if file.len() - at < RECORD {
-        return Read::Ill;
-    }
     if file[at] != TAG {
-        return Read::Ill;
+        return false;
     }
-    if octets::le2(file, at + 1) != LENGTH {
-        return Read::Ill;
-    }
-    Read::Stands {
-        value: at + 3,
-        next: at + RECORD,
-    }
+    octets::le2(file, at + 1) == LENGTH
 }
 
+// The whole length is tested first, so that each record is told by its tag and length alone.
 pub fn is_well_formed(file: &[u8]) -> bool
     ensures { λ r. ⌜ r ≡ isWellFormed (now (file .entry)) ⌝ }
 {
-    let mut at = 0;
-    let mut more = MOST_RECORDS;
-    loop {
-        let read = read_at(file, at);
-        match read {
-            Read::End => {
-                return true;
-            }
-            Read::Ill => {
-                return false;
-            }
-            Read::Stands { value: _, next } => {
-                if more == 0 {
-                    return false;
-                }
-                more -= 1;
-                at = next;
-            }
-        }
+    if MOST_RECORDS * RECORD < file.len() {
+        return false;
     }
+    if file.len() % RECORD != 0 {
+        return false;
+    }
+    let mut at = 0;
+    while at < file.len() {
+        if !is_record(file, at) {
+            return false;
+        }
+        at += RECORD;
+    }
+    true
 }
 
 // The end of the record whose value starts at a place: it stands behind PMKID and AKM type.
@@ -109,23 +87,14 @@ fn find(file: &[u8], pmkid: &[u8], akm: u8, reading: Tu) -> Found
     ensures { λ r. ⌜ r ≡ told (foundOf (recordsOf (now (file .entry))) (now (pmkid .entry)) akm reading) ⌝ }
 {
     let mut at = 0;
-    loop {
-        let read = read_at(file, at);
-        match read {
-            Read::End => {
-                return Found::Nothing;
-            }
-            Read::Ill => {
-                return Found::Nothing;
-            }
-            Read::Stands { value, next } => {
-                if matches(file, value, pmkid, akm, reading) {
-                    return Found::Until(end_at(file, value));
-                }
-                at = next;
-            }
+    while at < file.len() {
+        let value = at + 3;
+        if matches(file, value, pmkid, akm, reading) {
+            return Found::Until(end_at(file, value));
         }
+        at += RECORD;
     }
+    Found::Nothing
 }
 
 // The first PMKID of a list that has such a record, by its number in the list counted from 0, and the record's end; or nothing.

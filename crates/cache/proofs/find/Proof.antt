@@ -5,8 +5,7 @@ use borrow.Author.Needs.{needs}
 use lib.ListN.{length}
 use Rattle.cache.specs.declared.Found.{Found}
 use Rattle.cache.specs.Search.{matches, told, foundOf}
-use Rattle.cache.proofs.Records.{stood}
-use Rattle.cache.proofs.Search.{Searched, searched-none, searched-all, searched-ill, searched-stops, searched-more}
+use Rattle.cache.proofs.Search.{Searched, searched-none, searched-all, searched-fits, searched-stops, searched-more}
 use Rattle.cache.proofs.find.Statement.{statement}
 use Rattle.cache.proofs.find.Tie as tie
 
@@ -19,61 +18,37 @@ abbrev μ-loop : tie.MeasureT-loop
 loop-holds : tie.Need-loop-holds Inv-loop μ-loop
 loop-holds c = searched-none _ _ (c .before .before .pre)
 
-read-at-requires : tie.Need-read-at-requires Inv-loop μ-loop
-read-at-requires c κs = search needs
+add-value : tie.Need-add-value Inv-loop μ-loop
+add-value c = omega (arith, searched-fits (c .before .loop .inv) (c .loop-test .taken))
 
-enum-told : tie.Need-enum-told Inv-loop μ-loop
-enum-told c = search needs
+matches-requires : tie.Need-matches-requires Inv-loop μ-loop
+matches-requires c κs = omega (arith, searched-fits (c .before .loop .inv) (c .loop-test .taken))
+
+end-at-requires : tie.Need-end-at-requires Inv-loop μ-loop
+end-at-requires c κs = let p = c .before .before in omega (arith, searched-fits (p .before .loop .inv) (p .loop-test .taken))
 
 returns : tie.Need-returns Inv-loop μ-loop
 unfolding foundOf
 returns c =
-    let p = c .before .before in
-    sym (ap told (searched-all (p .before .loop .inv) (sym (p .read-at .ensures) ∙ c .enum-told .given .1)))
-
-enum-told-2 : tie.Need-enum-told-2 Inv-loop μ-loop
-enum-told-2 c = search needs
-
-returns-2 : tie.Need-returns-2 Inv-loop μ-loop
-returns-2 c =
-    let p = c .before .before in
-    absurd (searched-ill (p .before .loop .inv) (sym (p .read-at .ensures) ∙ c .enum-told2 .given .1))
-
-enum-known-read : tie.Need-enum-known-read Inv-loop μ-loop
-enum-known-read c = search needs
-
-matches-requires : tie.Need-matches-requires Inv-loop μ-loop
-matches-requires c κs =
-    let q = c .before .before .before in
-    omega (arith, stood (q .before .before .before .before .args .file .now) (q .before .loop .at) (sym (q .read-at .ensures) ∙ c .before .read .given .1))
-
-end-at-requires : tie.Need-end-at-requires Inv-loop μ-loop
-end-at-requires c κs =
-    let p = c .before .before .before in
-    let q = p .before .before in
-    omega (arith, stood (q .before .before .before .before .args .file .now) (q .before .loop .at) (sym (q .read-at .ensures) ∙ p .read .given .1))
-
-returns-3 : tie.Need-returns-3 Inv-loop μ-loop
-unfolding foundOf
-returns-3 c =
     let m = c .before .before in
-    let p = m .before .before in
-    let q = p .before .before in
-    sym (ap told (searched-stops (q .before .loop .inv) (sym (q .read-at .ensures) ∙ p .read .given .1) (sym (m .matches .ensures) ∙ c .before .if1 .taken))
+    let p = m .before in
+    sym (ap told (searched-stops (p .before .loop .inv) (p .loop-test .taken) (sym (m .matches .ensures) ∙ c .before .if1 .taken))
     ∙ ap (λ (n : ℕ). Found.Until (record { 0 = n })) (sym (c .end-at .ensures)))
 
+add-at : tie.Need-add-at Inv-loop μ-loop
+add-at c = let p = c .before .before in omega (arith, searched-fits (p .before .loop .inv) (p .loop-test .taken))
+
 loop-less : tie.Need-loop-less Inv-loop μ-loop
-loop-less c =
-    let p = c .before .before .before in
-    let q = p .before .before in
-    omega (arith, stood (q .before .before .before .before .args .file .now) (q .before .loop .at) (sym (q .read-at .ensures) ∙ p .read .given .1))
+loop-less c = search needs
 
 loop-again : tie.Need-loop-again Inv-loop μ-loop
 loop-again c =
-    let m = c .before in
-    let p = m .before .before in
-    let q = p .before .before in
-    searched-more (q .before .loop .inv) (sym (q .read-at .ensures) ∙ p .read .given .1) (sym (m .matches .ensures) ∙ c .if1 .left)
+    let p = c .before .before in
+    searched-more (p .before .loop .inv) (p .loop-test .taken) (sym (c .before .matches .ensures) ∙ c .if1 .left)
+
+returns-2 : tie.Need-returns-2 Inv-loop μ-loop
+unfolding foundOf
+returns-2 c = sym (ap told (searched-all (c .before .loop .inv) (c .loop-test .left)))
 
 pub find-spec : {M : Type 1} → statement M
 find-spec =
@@ -82,14 +57,11 @@ find-spec =
     Inv-loop
     μ-loop
     loop-holds
-    read-at-requires
-    enum-told
-    returns
-    enum-told-2
-    returns-2
-    enum-known-read
+    add-value
     matches-requires
     end-at-requires
-    returns-3
+    returns
+    add-at
     loop-less
-    loop-again)
+    loop-again
+    returns-2)

@@ -1,51 +1,41 @@
-use mathlib.Core.Path.{_≡_, refl, sym, _∙_}
+use mathlib.Core.Path.{sym, _∙_}
+use Prim.Native.Nat.{_-_}
 use native.Mathlib.Omega.{arith}
+use borrow.Author.Tests.{not-true, not-false}
 use borrow.Author.Needs.{needs}
-use Rattle.cache.specs.File.{cacheFrom, cacheOf, wellFormed, isWellFormed}
-use Rattle.cache.proofs.File.{well-end, well-ill, well-full, well-record}
+use lib.ListN.{length}
+use Rattle.cache.proofs.Whole.{Checked, too-long, with-a-tail, checked-none, checked-all, checked-fits, checked-ill, checked-more}
 use Rattle.cache.proofs.is_well_formed.Statement.{statement}
 use Rattle.cache.proofs.is_well_formed.Tie as tie
 
 abbrev Inv-loop : tie.InvT-loop
-Inv-loop file at₀ more₀ at more = isWellFormed file ≡ wellFormed (cacheFrom more file at)
+Inv-loop file at₀ at = Checked file at
 
 abbrev μ-loop : tie.MeasureT-loop
-μ-loop file at₀ more₀ at more = more
+μ-loop file at₀ at = length file - at
 
-loop-holds : tie.Need-loop-holds Inv-loop μ-loop
-unfolding isWellFormed cacheOf
-loop-holds c = refl
-
-read-at-requires : tie.Need-read-at-requires Inv-loop μ-loop
-read-at-requires c κs = search needs
-
-enum-told : tie.Need-enum-told Inv-loop μ-loop
-enum-told c = search needs
+mul-if1 : tie.Need-mul-if1 Inv-loop μ-loop
+mul-if1 c = search needs
 
 returns : tie.Need-returns Inv-loop μ-loop
-returns c =
-    let p = c .before .before in
-    sym (p .before .loop .inv ∙ well-end _ _ _ (sym (p .read-at .ensures) ∙ c .enum-told .given .1))
-
-enum-told-2 : tie.Need-enum-told-2 Inv-loop μ-loop
-enum-told-2 c = search needs
+returns c = sym (too-long _ (omega arith))
 
 returns-2 : tie.Need-returns-2 Inv-loop μ-loop
-returns-2 c =
-    let p = c .before .before in
-    sym (p .before .loop .inv ∙ well-ill _ _ _ (sym (p .read-at .ensures) ∙ c .enum-told2 .given .1))
+returns-2 c = sym (with-a-tail _ (λ e. c .if2 .taken (omega arith)))
 
-enum-known-read : tie.Need-enum-known-read Inv-loop μ-loop
-enum-known-read c = search needs
+loop-holds : tie.Need-loop-holds Inv-loop μ-loop
+loop-holds c = checked-none _ (omega arith) (omega arith)
+
+is-record-requires : tie.Need-is-record-requires Inv-loop μ-loop
+is-record-requires c κs = checked-fits (c .before .loop .inv) (c .loop-test .taken)
 
 returns-3 : tie.Need-returns-3 Inv-loop μ-loop
 returns-3 c =
     let p = c .before .before in
-    let q = p .before .before in
-    sym (q .before .loop .inv ∙ well-full _ _ _ (sym (q .read-at .ensures) ∙ p .read .given .1) (c .if1 .taken))
+    sym (checked-ill (p .before .loop .inv) (p .loop-test .taken) (sym (c .before .is-record .ensures) ∙ not-true _ (c .if3 .taken)))
 
-sub-more : tie.Need-sub-more Inv-loop μ-loop
-sub-more c = search needs
+add-at : tie.Need-add-at Inv-loop μ-loop
+add-at c = let p = c .before .before in omega (arith, checked-fits (p .before .loop .inv) (p .loop-test .taken))
 
 loop-less : tie.Need-loop-less Inv-loop μ-loop
 loop-less c = search needs
@@ -53,8 +43,10 @@ loop-less c = search needs
 loop-again : tie.Need-loop-again Inv-loop μ-loop
 loop-again c =
     let p = c .before .before in
-    let q = p .before .before in
-    q .before .loop .inv ∙ well-record _ _ _ (sym (q .read-at .ensures) ∙ p .read .given .1) (omega arith)
+    checked-more (p .before .loop .inv) (p .loop-test .taken) (sym (c .before .is-record .ensures) ∙ not-false _ (c .if3 .left))
+
+returns-4 : tie.Need-returns-4 Inv-loop μ-loop
+returns-4 c = sym (checked-all (c .before .loop .inv) (c .loop-test .left))
 
 pub is-well-formed-spec : {M : Type 1} → statement M
 is-well-formed-spec =
@@ -62,14 +54,13 @@ is-well-formed-spec =
     (tie.spec
     Inv-loop
     μ-loop
-    loop-holds
-    read-at-requires
-    enum-told
+    mul-if1
     returns
-    enum-told-2
     returns-2
-    enum-known-read
+    loop-holds
+    is-record-requires
     returns-3
-    sub-more
+    add-at
     loop-less
-    loop-again)
+    loop-again
+    returns-4)

@@ -12,7 +12,7 @@ use Rattle.frames.proofs.second.ReadBack.{Readable, second-reads-back, refusal-
 use Rattle.peers.specs.declared.Table.{Table}
 use Rattle.peers.specs.View.{full}
 use Rattle.rules.specs.OnePeer.{Call, Outcome, chosenOf}
-use Rattle.rules.proofs.Passing.{fitting}
+use Rattle.verdicts.proofs.Passing.{fitting}
 use Rattle.demands.specs.ReadsBack.{AcceptsFirst, RefusesFirst, SecondFrame, SixOctets, AReplyReadsBack}
 use Rattle.demands.proofs.CoincideLaws.{ruled}
 use Rattle.demands.proofs.ReadsBackExact.{acceptance-is-exact, ruled-accepted, ruled-refused}

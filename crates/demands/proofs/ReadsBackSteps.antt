@@ -44,8 +44,8 @@ use Rattle.cache.specs.Search.{choiceOf}
 use Rattle.units.specs.declared.Tu.{Tu}
 use Rattle.rules.specs.declared.Settings.{Settings}
 use Rattle.rules.specs.OnePeer.{Call, Step, refuse, pass, _>>=_, refuseIf, formed, step1, step2, isSuite, step3, isAllowed, step4, akmAllowed, step5, isProtected, step6, Suites, suiteSteps, grouped, step7, step8, step9, keySteps, pmkidChosen, step10, step11, Passed, lifetimeOf, steps, settingsFit}
-use Rattle.rules.proofs.Passing.{refuse-pass, pass-same, bound}
 use Rattle.rules.proofs.Pmkids.{in-list, that-part}
+use Rattle.verdicts.proofs.Passing.{refuse-pass, pass-same, bound}
 
 -- What passes -----------------------------------------------------------------------------------------------------------------------------
 

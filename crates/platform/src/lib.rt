@@ -254,7 +254,7 @@ fn on_first(
         return rules::only(Answer::PeerInstalled, Leaves::Same);
     }
     let full = is_full(found);
-    rules::first::answer(brought, file, key, body, algorithm, full, reply)
+    verdicts::first::answer(brought, file, key, body, algorithm, full, reply)
 }
 
 fn on_third(found: Found, peer: Peer, reading: Tu, mic: &[u8], body: &[u8], status: u16) -> Verdict
@@ -264,7 +264,7 @@ fn on_third(found: Found, peer: Peer, reading: Tu, mic: &[u8], body: &[u8], stat
     let Found::At(_) = found else {
         return rules::only(Answer::NoExchange, Leaves::Same);
     };
-    rules::third::answer(peer, reading, mic, body, status)
+    verdicts::third::answer(peer, reading, mic, body, status)
 }
 
 // What a body gets, once the call is checked.

@@ -12,23 +12,18 @@ use Rattle.suites.specs.declared.AkmEntry.{AkmEntry}
 use Rattle.suites.specs.declared.Group.{Group}
 use Rattle.frames.specs.declared.first.Facts.{Facts}
 use Rattle.frames.specs.Contents.{content}
-use Rattle.frames.specs.Second.{secondOctets}
 use Rattle.cache.specs.File.{isWellFormed}
-use Rattle.suites.specs.Tables.{isKeyOf}
 use Rattle.octets.specs.Wrote.{Wrote}
 use Rattle.rules.specs.declared.Answer.{Answer}
 use Rattle.peers.specs.declared.Peer.{Peer}
-use Rattle.peers.specs.declared.Phase.the-variants.{Waiting}
 use Rattle.rules.specs.declared.Leaves.{Leaves}
 use Rattle.rules.specs.declared.Verdict.{Verdict}
 use Rattle.rules.specs.declared.Brought.{Brought}
-use Rattle.rules.specs.declared.first.CipherStep.{CipherStep}
-use Rattle.rules.specs.declared.first.Decided.{Decided}
-use Rattle.rules.specs.declared.first.Decision.{Decision}
-use Rattle.rules.specs.declared.first.KeySteps.{KeySteps}
-use Rattle.rules.specs.declared.first.PmkidStep.{PmkidStep}
-use Rattle.rules.specs.declared.first.SuiteSteps.{SuiteSteps}
-use Rattle.rules.specs.OnePeer.{Call, Left, same, becomes, Outcome, unchanged, withoutWaiting, after, steps, firstOutcome, Step, refuse, pass, _>>=_, Suites, Passed, keySteps, step10, step11, lifetimeOf}
+use Rattle.rules.specs.declared.steps.CipherStep.{CipherStep}
+use Rattle.rules.specs.declared.steps.KeySteps.{KeySteps}
+use Rattle.rules.specs.declared.steps.PmkidStep.{PmkidStep}
+use Rattle.rules.specs.declared.steps.SuiteSteps.{SuiteSteps}
+use Rattle.rules.specs.OnePeer.{Call, Left, same, becomes, Outcome, withoutWaiting, steps, firstOutcome, Step, refuse, pass, _>>=_, Suites, Passed, keySteps, step10, step11, lifetimeOf}
 
 abbrev pub cipherTold : CipherStep → Step ℕ
 cipherTold (CipherStep.Chosen kind) = pass kind
@@ -52,19 +47,6 @@ pmkidOf cached pmkid = if cached then pmkid else []
 
 abbrev pub pmkidTold : PmkidStep → Step (List ℕ)
 pmkidTold s = if s .passed then pass (pmkidOf (s .cached) (s .pmkid)) else refuse 53
-
-abbrev pub decidedBy : Decided → Decision → Step Passed
-decidedBy d Decision.Passed = pass (record {
-  cipher = d .cipher;
-  akm = d .akm;
-  pmkid = pmkidOf (d .cached) (d .pmkid);
-  group = d .group;
-  lifetime = d .lifetime;
-})
-decidedBy d (Decision.Refused status) = refuse status
-
-abbrev pub decidedOf : Decided → Step Passed
-decidedOf d = decidedBy d (d .decision)
 
 -- the steps from the tenth and from the seventh on
 unfoldable pub withKey : Brought → List ℕ → List ℕ → Bool → Facts → ℕ → Akm → Group → Step Passed
@@ -109,35 +91,6 @@ pub record Gets (outcome : Outcome) (own : Option Peer) (before after : List ℕ
 pub record ClockFits (brought : Brought) : Type 0 where
   pub reading : brought .reading .0 ≤ 2 ^ 48
   pub deadline : brought .settings .deadline .0 ≤ 10000
-
-abbrev pub waitingOf : Brought → Decided → List ℕ → Peer
-waitingOf brought d pmkid = record {
-  address = brought .address;
-  pmkid = pmkid;
-  cached = d .cached;
-  phase = Waiting (after (brought .reading) (brought .settings .deadline));
-  cipher = d .cipher;
-  akm = d .akm .kind;
-  lifetime = d .lifetime;
-}
-
--- the second frame of what was decided fits its elements and a buffer of n octets
-pub record Writable (d : Decided) (pmkids : ℕ) (key : List ℕ) (n : ℕ) : Type 0 where
-  pub one : pmkids ≤ 16
-  pub mic : d .akm .mic ≤ 16
-  pub keys : isKeyOf (d .group) key ≡ true → length key ≤ 65
-  pub room : 148 ≤ n
-
--- what was decided, with the PMKIDs that are written and the one that is kept
-abbrev pub acceptedOf : Brought → Decided → List ℕ → List ℕ → ℕ → List ℕ → Outcome
-acceptedOf brought d pmkid pmkids algorithm key =
-    if isKeyOf (d .group) key
-    then record {
-      answer = Answer.Accepted;
-      reply = secondOctets (record { algorithm = algorithm; cipher = d .cipher; akm = d .akm .kind; lifetime = d .lifetime; group = d .group .number; mic = d .akm .mic }) pmkids key;
-      leaves = becomes (waitingOf brought d pmkid);
-    }
-    else unchanged Answer.OwnKey
 
 -- what was checked before a first frame is looked at
 pub record Ready (brought : Brought) (file : List ℕ) (n : ℕ) : Type 0 where

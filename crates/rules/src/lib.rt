@@ -1,6 +1,5 @@
-// The rules for one peer: what a first and what a third frame get. No table stands in them.
-pub mod first;
-pub mod third;
+// The rules for one peer: what a receive brings and gets, and the steps that choose. No table stands in them.
+pub mod steps;
 
 ghost use Rattle.rules.specs.Told.{Only};
 use peers::Peer;

@@ -5,8 +5,8 @@ use Rattle.elements.specs.declared.Opened.{Opened}
 use Rattle.elements.specs.Body.{bodyOf}
 use Rattle.peers.specs.declared.Peer.{Peer}
 use Rattle.rules.specs.OnePeer.{Call}
-use Rattle.rules.proofs.Accepting.{gets-same}
-use Rattle.rules.proofs.Verdicts.{stays, decides-gets}
+use Rattle.verdicts.proofs.Accepting.{gets-same}
+use Rattle.verdicts.proofs.Verdicts.{stays, decides-gets}
 use Rattle.platform.specs.Promises.{callOf}
 use Rattle.platform.specs.Inside.{seen, isFull}
 use Rattle.platform.proofs.Calls.{first-same, third-same}

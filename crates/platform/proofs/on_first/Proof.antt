@@ -3,8 +3,8 @@ use mathlib.Core.Bool.{Bool}
 use mathlib.Core.List.{[]}
 use Rattle.rules.specs.OnePeer.{Call}
 use Rattle.rules.specs.Told.{firstFor}
-use Rattle.rules.proofs.Accepting.{gets-same}
-use Rattle.rules.proofs.Verdicts.{stays, decides-gets}
+use Rattle.verdicts.proofs.Accepting.{gets-same}
+use Rattle.verdicts.proofs.Verdicts.{stays, decides-gets}
 use Rattle.platform.specs.Promises.{callOf}
 use Rattle.platform.specs.Inside.{seen, isFull}
 use Rattle.platform.proofs.Bodies.{first-installed, first-open}

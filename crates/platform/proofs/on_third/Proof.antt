@@ -3,7 +3,7 @@ use mathlib.Core.Option.{Option}
 use Rattle.peers.specs.declared.Peer.{Peer}
 use Rattle.rules.specs.OnePeer.{Outcome, thirdFrame}
 use Rattle.rules.specs.Told.{thirdCall, Decides}
-use Rattle.rules.proofs.Verdicts.{decides-same, stays}
+use Rattle.verdicts.proofs.Verdicts.{decides-same, stays}
 use Rattle.platform.specs.Inside.{seen}
 use Rattle.platform.proofs.Finding.{seen-at, seen-none}
 use borrow.Author.Needs.{needs}

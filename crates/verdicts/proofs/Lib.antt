@@ -1,0 +1,4 @@
+pub mod Steps
+pub mod Passing
+pub mod Accepting
+pub mod Verdicts

@@ -1,0 +1,64 @@
+use mathlib.Core.Path.{_∙_}
+use borrow.Author.Tests.{not-true, not-false}
+use Rattle.rules.specs.Told.{withKey}
+use Rattle.verdicts.proofs.Steps.{pmkid-refused, pmkid-passed}
+use borrow.Author.Needs.{needs}
+use Rattle.verdicts.proofs.first.with_key.Statement.{statement}
+use Rattle.verdicts.proofs.first.with_key.Tie as tie
+
+sub-pmkid-step : tie.Need-sub-pmkid-step
+sub-pmkid-step c = search needs
+
+part-pmkid-step-start : tie.Need-part-pmkid-step-start
+part-pmkid-step-start c = search needs
+
+part-pmkid-step-end : tie.Need-part-pmkid-step-end
+part-pmkid-step-end c = search needs
+
+pmkid-step-requires : tie.Need-pmkid-step-requires
+pmkid-step-requires c κs = search needs
+
+refused-requires : tie.Need-refused-requires
+refused-requires c κs = search needs
+
+returns : tie.Need-returns
+unfolding withKey
+returns c =
+    let p = c .before .before .before in
+    c .refused .ensures ∙ rw (pmkid-refused (p .pmkid-step .result) (p .pmkid-step .ensures) (not-true _ (c .before .if1 .taken)))
+
+refused-requires-2 : tie.Need-refused-requires-2
+refused-requires-2 c κs = search needs
+
+returns-2 : tie.Need-returns-2
+unfolding withKey
+returns-2 c =
+    let p = c .before .before in
+    let q = p .before .before in
+    c .refused2 .ensures ∙ rw (pmkid-passed (q .pmkid-step .result) (q .pmkid-step .ensures) (not-false _ (p .if1 .left)), c .before .if2 .taken)
+
+lifetime-of-requires : tie.Need-lifetime-of-requires
+lifetime-of-requires c κs = search needs
+
+returns-3 : tie.Need-returns-3
+unfolding withKey
+returns-3 c =
+    let p = c .before .before .before in
+    let q = p .before in
+    let r = q .before .before in
+    rw (pmkid-passed (r .pmkid-step .result) (r .pmkid-step .ensures) (not-false _ (q .if1 .left)), p .if2 .left, c .lifetime-of .ensures)
+
+pub with-key-spec : {M : Type 1} → statement M
+with-key-spec =
+    tie.close
+    (tie.spec
+    sub-pmkid-step
+    part-pmkid-step-start
+    part-pmkid-step-end
+    pmkid-step-requires
+    refused-requires
+    returns
+    refused-requires-2
+    returns-2
+    lifetime-of-requires
+    returns-3)

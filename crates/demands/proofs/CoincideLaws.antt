@@ -13,7 +13,7 @@ use Rattle.octets.specs.Equality.{sameOctets}
 use Rattle.octets.proofs.Logic.{both}
 use Rattle.units.specs.declared.Tu.{Tu}
 use Rattle.units.specs.Units.{inClock}
-use Rattle.frames.specs.declared.bodies.MicAnswer.{MicAnswer}
+use Rattle.bodies.specs.declared.MicAnswer.{MicAnswer}
 use Rattle.peers.specs.declared.Peer.{Peer}
 use Rattle.peers.specs.declared.Table.{Table}
 use Rattle.peers.specs.Alike.{Alike}

@@ -15,11 +15,12 @@ use Rattle.peers.specs.Promises.{Nobody, whileLive}
 use Rattle.rules.specs.declared.Answer.{Answer}
 use Rattle.rules.specs.declared.Brought.{Brought}
 use Rattle.rules.specs.OnePeer.{Call, Left, same, gone, Outcome, numberOf, peerAfter, receiveOf, removeOf, lookUpOf}
+use Rattle.rules.specs.Told.{callOf}
 use Rattle.platform.specs.declared.LookUp.{LookUp}
 use Rattle.platform.specs.declared.LookedUp.{LookedUp}
 use Rattle.platform.specs.declared.Received.{Received}
 use Rattle.platform.specs.declared.Removed.{Removed}
-use Rattle.platform.specs.Promises.{callOf, isEarly, Receives, removalNumber, Removes, lookNumber, LooksUp}
+use Rattle.platform.specs.Promises.{isEarly, Receives, removalNumber, Removes, lookNumber, LooksUp}
 
 -- Calls ---------------------------------------------------------------------------------------------------------------------------------
 

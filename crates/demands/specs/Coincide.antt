@@ -4,9 +4,9 @@ use mathlib.Core.List.{List}
 use Prim.Native.Nat.{ℕ}
 use lib.ListN.{length}
 use Rattle.units.specs.declared.Tu.{Tu}
-use Rattle.frames.specs.declared.bodies.MicAnswer.{MicAnswer}
-use Rattle.frames.specs.Bodies.{keyPart, zeroAnswer, zeroed, setAnswer, setOctets}
 use Rattle.frames.specs.Contents.{content}
+use Rattle.bodies.specs.declared.MicAnswer.{MicAnswer}
+use Rattle.bodies.specs.Bodies.{keyPart, zeroAnswer, zeroed, setAnswer, setOctets}
 use Rattle.peers.specs.declared.Table.{Table}
 use Rattle.peers.specs.Alike.{Alike}
 use Rattle.peers.specs.Promises.{Nobody}

@@ -1,4 +1,3 @@
-pub mod Bodies
 pub mod Contents
 pub mod First
 pub mod Second

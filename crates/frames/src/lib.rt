@@ -1,5 +1,4 @@
-// The three frames of an exchange, each as a whole, and the operations on bodies.
-pub mod bodies;
+// The three frames of an exchange, each as a whole.
 pub mod contents;
 pub mod first;
 pub mod second;

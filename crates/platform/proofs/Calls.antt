@@ -16,8 +16,7 @@ use Rattle.peers.specs.declared.Phase.the-variants.{Waiting, Installed}
 use Rattle.rules.specs.declared.Answer.{Answer}
 use Rattle.rules.specs.declared.Brought.{Brought}
 use Rattle.rules.specs.OnePeer.{Call, Outcome, gone, Step, refuse, pass, Passed, steps, firstOutcome, firstOn, firstFrame, thirdMic, thirdAkm, thirdOn, thirdFrame}
-use Rattle.rules.specs.Told.{thirdCall}
-use Rattle.platform.specs.Promises.{callOf}
+use Rattle.rules.specs.Told.{callOf, thirdCall}
 
 -- what a call brings beside its strings of octets
 abbrev pub broughtOf : Call → Brought

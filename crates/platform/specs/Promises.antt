@@ -15,7 +15,6 @@ use Rattle.peers.specs.declared.Phase.the-variants.{Waiting, Installed}
 use Rattle.peers.specs.declared.Table.{Table}
 use Rattle.peers.specs.View.{other, shows, others, full, vacantPeer}
 use Rattle.peers.specs.Promises.{whileLive}
-use Rattle.rules.specs.declared.Brought.{Brought}
 use Rattle.rules.specs.OnePeer.{Call, Left, same, gone, becomes, Outcome, numberOf, receiveOf, removeOf, lookUpOf}
 use Rattle.platform.specs.declared.Received.{Received}
 use Rattle.platform.specs.declared.Removal.{Removal}
@@ -45,20 +44,6 @@ pub record Settles (t : Table) (address : List ℕ) (n : Tu) (left : Left) (r : 
 abbrev pub isWaiting : Phase → Bool
 isWaiting (Waiting deadline) = true
 isWaiting (Installed end) = false
-
--- what a receive brings, as one call
-abbrev pub callOf : Brought → List ℕ → List ℕ → List ℕ → List ℕ → ℕ → Call
-callOf brought cache key mic body room = record {
-  settings = brought .settings;
-  cache = cache;
-  reading = brought .reading;
-  address = brought .address;
-  point = brought .point;
-  key = key;
-  mic = mic;
-  body = body;
-  room = room;
-}
 
 -- whether an answer is one of 1 to 5
 abbrev pub isEarly : ℕ → Bool

@@ -5,17 +5,17 @@ ghost use mathlib.Core.List.{[]};
 ghost use lib.ListN.{length};
 ghost use Rattle.elements.specs.Body.{bodyOf};
 ghost use Rattle.frames.specs.Contents.{content};
-ghost use Rattle.frames.specs.Bodies.{keyPart, zeroAnswer, zeroed, setAnswer, setOctets};
+ghost use Rattle.bodies.specs.Bodies.{keyPart, zeroAnswer, zeroed, setAnswer, setOctets};
 ghost use Rattle.peers.specs.Promises.{Nobody};
 ghost use Rattle.peers.specs.View.{full, vacantPeer};
 ghost use Rattle.rules.specs.OnePeer.{numberOf, clockFits, settingsFit, isGroupAddress, firstFrame, thirdFrame, onBody};
-ghost use Rattle.rules.specs.Told.{Ready, Gets, Decides, thirdCall};
+ghost use Rattle.rules.specs.Told.{callOf, Ready, Gets, Decides, thirdCall};
 ghost use Rattle.units.specs.Units.{inClock};
 ghost use Rattle.platform.specs.Inside.{checkedOf, seen, isFull, waits, isInstalled, leftBy, Seats};
-ghost use Rattle.platform.specs.Promises.{Settles, callOf, Receives, Removes, LooksUp, removalNumber, lookNumber};
+ghost use Rattle.platform.specs.Promises.{Settles, Receives, Removes, LooksUp, removalNumber, lookNumber};
+use bodies::MicAnswer;
+use bodies::PASN;
 use elements::Opened;
-use frames::bodies::MicAnswer;
-use frames::bodies::PASN;
 use peers::Found;
 use peers::Peer;
 use peers::Phase;
@@ -410,23 +410,23 @@ pub fn look_up(t: Table, address: [u8; 6], reading: Tu) -> LookedUp
     }
 }
 
-// The operations on bodies, as `frames` has them.
+// The operations on bodies, as `bodies` has them.
 pub fn show_key(body: &[u8]) -> &[u8]
     ensures { λ r. ⌜ now r ≡ content (now (body .entry)) (keyPart (now (body .entry))) ⌝ }
 {
-    frames::bodies::show_key(body)
+    bodies::show_key(body)
 }
 
 pub fn zero_mic(body: &[u8], out: &mut [u8]) -> MicAnswer
     ensures answers { λ r. ⌜ r ≡ zeroAnswer (now (body .entry)) (length (now (out .entry))) ⌝ }
     ensures leaves { λ _. ⌜ now (out .exit) ≡ zeroed (now (body .entry)) (now (out .entry)) ⌝ }
 {
-    frames::bodies::zero_mic(body, out)
+    bodies::zero_mic(body, out)
 }
 
 pub fn set_mic(body: &mut [u8], mic: &[u8]) -> MicAnswer
     ensures answers { λ r. ⌜ r ≡ setAnswer (now (body .entry)) (now (mic .entry)) ⌝ }
     ensures leaves { λ _. ⌜ now (body .exit) ≡ setOctets (now (body .entry)) (now (mic .entry)) ⌝ }
 {
-    frames::bodies::set_mic(body, mic)
+    bodies::set_mic(body, mic)
 }

@@ -2,7 +2,7 @@
 use crate::text::put;
 use crate::text::put_number;
 use crate::text::put_octets;
-use frames::bodies::MicAnswer;
+use bodies::MicAnswer;
 use peers::Peer;
 use peers::Phase;
 use platform::LookUp;
@@ -100,7 +100,7 @@ pub fn put_key(key: &[u8]) {
 // What setting or zeroing a MIC comes to; `output` is shown where it was done.
 pub fn put_mic(operation: &[u8], answer: MicAnswer, output: &[u8]) {
     put(operation);
-    put_number(frames::bodies::number_of(answer) as u64);
+    put_number(bodies::number_of(answer) as u64);
     put(b" ");
     if let MicAnswer::Done = answer {
         put_octets(output);

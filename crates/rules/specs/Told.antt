@@ -61,18 +61,18 @@ withSuites brought file body full facts cipher akm = do
   group ← keySteps (facts .group) (content body (facts .key)) (brought .point)
   withKey brought file body full facts cipher akm group
 
--- a first frame's call; the lent MIC is not looked at
-abbrev pub callOf : Brought → List ℕ → List ℕ → Call
-callOf brought file body = record {
+-- what a receive brings, as one call
+abbrev pub callOf : Brought → List ℕ → List ℕ → List ℕ → List ℕ → ℕ → Call
+callOf brought cache key mic body room = record {
   settings = brought .settings;
-  cache = file;
+  cache = cache;
   reading = brought .reading;
   address = brought .address;
   point = brought .point;
-  key = [];
-  mic = [];
+  key = key;
+  mic = mic;
   body = body;
-  room = 0;
+  room = room;
 }
 
 -- what a verdict leaves of this peer's record
@@ -98,20 +98,10 @@ pub record Ready (brought : Brought) (file : List ℕ) (n : ℕ) : Type 0 where
   pub formed : isWellFormed file ≡ true
   pub room : 148 ≤ n
 
--- the outcome of a first frame, of a peer with no record or a waiting one
+-- the outcome of a first frame, of a peer with no record or a waiting one; neither the lent MIC nor the buffer's length is looked at
 abbrev pub firstFor : Brought → List ℕ → List ℕ → List ℕ → ℕ → Bool → Option Peer → Outcome
 firstFor brought file key body algorithm full own =
-    firstOutcome (record {
-      settings = brought .settings;
-      cache = file;
-      reading = brought .reading;
-      address = brought .address;
-      point = brought .point;
-      key = key;
-      mic = [];
-      body = body;
-      room = 0;
-    }) algorithm own (steps (callOf brought file body) full)
+    firstOutcome (callOf brought file key [] body 0) algorithm own (steps (callOf brought file [] [] body 0) full)
 
 -- a verdict with nothing written and no record made
 pub record Only (answer : Answer) (leaves : Leaves) (r : Verdict) : Type 0 where

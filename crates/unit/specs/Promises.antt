@@ -5,7 +5,7 @@ use mathlib.Core.List.{List}
 use mathlib.Core.Option.{Option, none, some}
 use lib.ListN.{length, replicate}
 use Rattle.units.specs.declared.Tu.{Tu}
-use Rattle.frames.specs.Bodies.{keyPart}
+use Rattle.bodies.specs.Bodies.{keyPart}
 use Rattle.peers.specs.declared.Table.{Table}
 use Rattle.rules.specs.declared.Answer.{Answer}
 use Rattle.rules.specs.declared.Brought.{Brought}

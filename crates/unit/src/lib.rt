@@ -1,9 +1,10 @@
 // The archive for a unit's firmware: the platform's operations as C calls them. Numbers, arrays and slices cross, and nothing is kept between calls.
 ghost use mathlib.Core.Path.{_≡_};
 ghost use lib.ListN.{length};
-ghost use Rattle.frames.specs.Bodies.{numberOf, zeroAnswer, zeroed, setAnswer, setOctets};
+ghost use Rattle.bodies.specs.Bodies.{numberOf, zeroAnswer, zeroed, setAnswer, setOctets};
 ghost use Rattle.peers.specs.Promises.{Nobody};
-ghost use Rattle.platform.specs.Promises.{callOf, Receives, Removes, LooksUp};
+ghost use Rattle.platform.specs.Promises.{Receives, Removes, LooksUp};
+ghost use Rattle.rules.specs.Told.{callOf};
 ghost use Rattle.unit.specs.Crossing.{tableOf};
 ghost use Rattle.unit.specs.Promises.{settingsOf, broughtOf, statusNumber, receiveResultOf, removeResultOf, lookUpResultOf, Told, KeyAt};
 
@@ -185,7 +186,7 @@ pub extern "C" fn galebeacon_remove(
 pub extern "C" fn galebeacon_show_key(body: &[u8]) -> KeyPlace
     ensures { λ r. ⌜ KeyAt (now (body .entry)) r ⌝ }
 {
-    let part = frames::bodies::key_part(body);
+    let part = bodies::key_part(body);
     KeyPlace {
         start: part.start,
         length: part.end - part.start,
@@ -197,7 +198,7 @@ pub extern "C" fn galebeacon_zero_mic(body: &[u8], out: &mut [u8]) -> u8
     ensures answers { λ r. ⌜ r ≡ numberOf (zeroAnswer (now (body .entry)) (length (now (out .entry)))) ⌝ }
     ensures leaves { λ _. ⌜ now (out .exit) ≡ zeroed (now (body .entry)) (now (out .entry)) ⌝ }
 {
-    frames::bodies::number_of(platform::zero_mic(body, out))
+    bodies::number_of(platform::zero_mic(body, out))
 }
 
 #[no_mangle]
@@ -205,5 +206,5 @@ pub extern "C" fn galebeacon_set_mic(body: &mut [u8], mic: &[u8]) -> u8
     ensures answers { λ r. ⌜ r ≡ numberOf (setAnswer (now (body .entry)) (now (mic .entry))) ⌝ }
     ensures leaves { λ _. ⌜ now (body .exit) ≡ setOctets (now (body .entry)) (now (mic .entry)) ⌝ }
 {
-    frames::bodies::number_of(platform::set_mic(body, mic))
+    bodies::number_of(platform::set_mic(body, mic))
 }

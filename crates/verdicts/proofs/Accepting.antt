@@ -22,7 +22,7 @@ pub gets-same : {o o' : Outcome} {own : Option Peer} {before after : List ℕ} {
 gets-same {own = own} {before = before} {after = after} {r = r} e g = subst (λ (o : Outcome). Gets o own before after r) e g
 
 module _ (brought : Brought) (d : Decided) (file key body : List ℕ) (algorithm : ℕ) (full : Bool)
-    (decided : decidedOf d ≡ steps (callOf brought file body) full) where
+    (decided : decidedOf d ≡ steps (callOf brought file [] [] body 0) full) where
   pub refused-same : (status : ℕ) → d .decision ≡ Decision.Refused status → (own : Option Peer)
       → refusal algorithm status own ≡ firstFor brought file key body algorithm full own
   refused-same status h own = rw (sym decided ∙ ap (decidedBy d) h)
@@ -30,7 +30,7 @@ module _ (brought : Brought) (d : Decided) (file key body : List ℕ) (algorithm
   module _ (passed : d .decision ≡ Decision.Passed) where
     pub writable : (n m : ℕ) → n ≤ 16 → 148 ≤ m → Writable d n key m
     writable n m h k =
-        let f = fitting (callOf brought file body) full (sym decided ∙ ap (decidedBy d) passed) in
+        let f = fitting (callOf brought file [] [] body 0) full (sym decided ∙ ap (decidedBy d) passed) in
         record { one = h; mic = f .mic; keys = f .keys key; room = k }
 
     pub cached-same : d .cached ≡ true → length (d .pmkid) ≡ 16 → (own : Option Peer)

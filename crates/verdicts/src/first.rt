@@ -1,6 +1,7 @@
 // The first frame: its eleven steps, and its acceptance.
 ghost use mathlib.Core.Path.{_≡_};
 ghost use mathlib.Core.Bool.{true};
+ghost use mathlib.Core.List.{[]};
 ghost use mathlib.Core.Option.{Option};
 ghost use Prim.Native.Nat.{_≤_};
 ghost use lib.ListN.{length};
@@ -140,7 +141,7 @@ fn with_suites(
 // The eleven steps.
 fn decide(brought: Brought, file: &[u8], body: &[u8], full: bool) -> Decided
     requires { ⌜ isWellFormed (now file) ≡ true ⌝ }
-    ensures { λ r. ⌜ decidedOf r ≡ steps (callOf brought (now (file .entry)) (now (body .entry))) full ⌝ }
+    ensures { λ r. ⌜ decidedOf r ≡ steps (callOf brought (now (file .entry)) [] [] (now (body .entry)) 0) full ⌝ }
 {
     let frame = frames::first::read(body);
     let First::Is(facts) = frame else {

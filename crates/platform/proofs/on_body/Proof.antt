@@ -7,7 +7,7 @@ use Rattle.peers.specs.declared.Peer.{Peer}
 use Rattle.rules.specs.OnePeer.{Call}
 use Rattle.verdicts.proofs.Accepting.{gets-same}
 use Rattle.verdicts.proofs.Verdicts.{stays, decides-gets}
-use Rattle.platform.specs.Promises.{callOf}
+use Rattle.rules.specs.Told.{callOf}
 use Rattle.platform.specs.Inside.{seen, isFull}
 use Rattle.platform.proofs.Calls.{first-same, third-same}
 use Rattle.platform.proofs.Bodies.{leaves-waiting, body-none, body-algorithm, body-first, body-third, body-neither}

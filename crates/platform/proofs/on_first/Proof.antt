@@ -2,10 +2,9 @@ use mathlib.Core.Path.{sym, ap, _∙_}
 use mathlib.Core.Bool.{Bool}
 use mathlib.Core.List.{[]}
 use Rattle.rules.specs.OnePeer.{Call}
-use Rattle.rules.specs.Told.{firstFor}
+use Rattle.rules.specs.Told.{callOf, firstFor}
 use Rattle.verdicts.proofs.Accepting.{gets-same}
 use Rattle.verdicts.proofs.Verdicts.{stays, decides-gets}
-use Rattle.platform.specs.Promises.{callOf}
 use Rattle.platform.specs.Inside.{seen, isFull}
 use Rattle.platform.proofs.Bodies.{first-installed, first-open}
 use borrow.Author.Needs.{needs}

@@ -5,7 +5,7 @@ use lib.ListN.{length}
 use Rattle.peers.specs.View.{shows, full}
 use Rattle.rules.specs.OnePeer.{Call}
 use Rattle.platform.specs.Inside.{seen, isFull}
-use Rattle.platform.specs.Promises.{callOf}
+use Rattle.rules.specs.Told.{callOf}
 use Rattle.platform.proofs.Finding.{Sees, found-at, sees-at, sees-none}
 use Rattle.platform.proofs.Receiving.{failed, passed, ready, answers-failed, seated, answers-settled}
 use Rattle.platform.proofs.receive.Statement.{statement}

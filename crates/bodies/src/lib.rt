@@ -3,15 +3,15 @@ ghost use mathlib.Core.Path.{_≡_};
 ghost use lib.ListN.{length};
 ghost use Rattle.elements.specs.Scan.{scanOf};
 ghost use Rattle.elements.specs.Within.{Ordered};
 ghost use Rattle.frames.specs.Contents.{content};
 ghost use Rattle.frames.specs.First.{FirstLies};
-ghost use Rattle.frames.specs.Bodies.{keyBy, keyPart, micAt, micScanned, micIn, numberOf, zeroAnswer, zeroed, setAnswer, setOctets};
-use crate::first;
-use crate::first::First;
+ghost use Rattle.bodies.specs.Bodies.{keyBy, keyPart, micAt, micScanned, micIn, numberOf, zeroAnswer, zeroed, setAnswer, setOctets};
 use elements::Opened;
 use elements::Part;
 use elements::Scan;
 use elements::Times;
+use frames::first;
+use frames::first::First;
 use suites::GroupEntry;
 
 // The Authentication algorithm number of PASN.

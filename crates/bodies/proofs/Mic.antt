@@ -21,11 +21,11 @@ use Rattle.elements.specs.Walk.{walkBody}
 use Rattle.elements.specs.Within.{Lies}
 use Rattle.elements.proofs.Unread.{SameBut, Inside, SomeOf, InsideIf, SameRead, same-read, mic-inside}
 use Rattle.suites.specs.Tables.{isMicLength}
-use Rattle.frames.specs.declared.bodies.MicAnswer.{MicAnswer}
-use Rattle.frames.specs.declared.bodies.MicPlace.{MicPlace}
-use Rattle.frames.specs.declared.bodies.MicPlace.the-variants.{At, Nowhere}
-use Rattle.frames.specs.Bodies.{micAt, micScanned, micOpened, micIn, withMic, zeroAnswerAt, zeroAnswer, zeroedAt, zeroed, setAt, setOctets}
-use Rattle.frames.proofs.bodies.Laws.{mic-lies}
+use Rattle.bodies.specs.declared.MicAnswer.{MicAnswer}
+use Rattle.bodies.specs.declared.MicPlace.{MicPlace}
+use Rattle.bodies.specs.declared.MicPlace.the-variants.{At, Nowhere}
+use Rattle.bodies.specs.Bodies.{micAt, micScanned, micOpened, micIn, withMic, zeroAnswerAt, zeroAnswer, zeroedAt, zeroed, setAt, setOctets}
+use Rattle.bodies.proofs.Laws.{mic-lies}
 
 abbrev MicInside : List ℕ → MicPlace → Type 0
 MicInside body (At p) = SomeOf (Inside p) (walkBody body)

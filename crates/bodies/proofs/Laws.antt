@@ -22,13 +22,13 @@ use Rattle.elements.specs.Within.{Lies, LiesIf}
 use Rattle.elements.proofs.Scanning.{within}
 use Rattle.suites.specs.declared.GroupEntry.{GroupEntry}
 use Rattle.suites.specs.Tables.{isMicLength, groupOf, isKeyOf}
-use Rattle.frames.specs.declared.bodies.MicPlace.{MicPlace}
-use Rattle.frames.specs.declared.bodies.MicPlace.the-variants.{At, Nowhere}
 use Rattle.frames.specs.declared.first.First.{First}
 use Rattle.frames.specs.Contents.{content}
 use Rattle.frames.specs.First.{firstOf, FirstLies}
-use Rattle.frames.specs.Bodies.{nowhere, keyWith, keyBy, keyIn, keyPart, micAt, micScanned, micOpened, micIn, withMic}
 use Rattle.frames.proofs.first.Laws.{first-lies}
+use Rattle.bodies.specs.declared.MicPlace.{MicPlace}
+use Rattle.bodies.specs.declared.MicPlace.the-variants.{At, Nowhere}
+use Rattle.bodies.specs.Bodies.{nowhere, keyWith, keyBy, keyIn, keyPart, micAt, micScanned, micOpened, micIn, withMic}
 
 nowhere-lies : (n : ℕ) → Lies 0 n nowhere
 nowhere-lies n = record { long = omega arith; within = omega arith }

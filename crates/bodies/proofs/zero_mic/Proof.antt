@@ -2,12 +2,12 @@ use mathlib.Core.Path.{sym, _∙_}
 use native.Mathlib.Omega.{arith}
 use lib.ListN.{length-take, length-drop}
 use borrow.Author.Tests.{lt-ltb, le-ltb}
-use Rattle.frames.specs.Bodies.{zeroAnswer, zeroed}
+use Rattle.bodies.specs.Bodies.{zeroAnswer, zeroed}
 use Rattle.octets.proofs.Parts.{wrote-length}
-use Rattle.frames.proofs.bodies.Laws.{mic-lies, mic-zeroed}
+use Rattle.bodies.proofs.Laws.{mic-lies, mic-zeroed}
 use borrow.Author.Needs.{needs}
-use Rattle.frames.proofs.bodies.zero_mic.Statement.{statement}
-use Rattle.frames.proofs.bodies.zero_mic.Tie as tie
+use Rattle.bodies.proofs.zero_mic.Statement.{statement}
+use Rattle.bodies.proofs.zero_mic.Tie as tie
 
 mic-in-requires : tie.Need-mic-in-requires
 mic-in-requires c κs = search needs

@@ -1,9 +1,9 @@
 use mathlib.Core.Path.{sym, _∙_}
 use borrow.Author.Tests.{eq-eqb, ne-eqb}
-use Rattle.frames.specs.Bodies.{micIn}
+use Rattle.bodies.specs.Bodies.{micIn}
 use borrow.Author.Needs.{needs}
-use Rattle.frames.proofs.bodies.mic_in.Statement.{statement}
-use Rattle.frames.proofs.bodies.mic_in.Tie as tie
+use Rattle.bodies.proofs.mic_in.Statement.{statement}
+use Rattle.bodies.proofs.mic_in.Tie as tie
 
 open-body-requires : tie.Need-open-body-requires
 open-body-requires c κs = search needs

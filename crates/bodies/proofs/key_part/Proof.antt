@@ -1,10 +1,10 @@
 use mathlib.Core.Path.{sym, _∙_}
 use borrow.Author.Tests.{eq-eqb, ne-eqb}
-use Rattle.frames.specs.Bodies.{keyPart}
 use Rattle.frames.proofs.first.Laws.{first-lies}
+use Rattle.bodies.specs.Bodies.{keyPart}
 use borrow.Author.Needs.{needs}
-use Rattle.frames.proofs.bodies.key_part.Statement.{statement}
-use Rattle.frames.proofs.bodies.key_part.Tie as tie
+use Rattle.bodies.proofs.key_part.Statement.{statement}
+use Rattle.bodies.proofs.key_part.Tie as tie
 
 open-body-requires : tie.Need-open-body-requires
 open-body-requires c κs = search needs

@@ -2,11 +2,11 @@ use mathlib.Core.Path.{sym, _∙_}
 use native.Mathlib.Omega.{arith}
 use lib.ListN.{length-take, length-drop}
 use borrow.Author.Tests.{eq-eqb, ne-eqb}
-use Rattle.frames.specs.Bodies.{setAnswer, setOctets}
-use Rattle.frames.proofs.bodies.Laws.{mic-lies, mic-set}
+use Rattle.bodies.specs.Bodies.{setAnswer, setOctets}
+use Rattle.bodies.proofs.Laws.{mic-lies, mic-set}
 use borrow.Author.Needs.{needs}
-use Rattle.frames.proofs.bodies.set_mic.Statement.{statement}
-use Rattle.frames.proofs.bodies.set_mic.Tie as tie
+use Rattle.bodies.proofs.set_mic.Statement.{statement}
+use Rattle.bodies.proofs.set_mic.Tie as tie
 
 mic-in-requires : tie.Need-mic-in-requires
 mic-in-requires c κs = search needs

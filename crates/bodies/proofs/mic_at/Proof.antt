@@ -1,9 +1,9 @@
 use mathlib.Core.Path.{refl, sym, _∙_}
-use Rattle.frames.specs.Bodies.{micAt}
 use Rattle.frames.proofs.Otherwise.{not-one}
+use Rattle.bodies.specs.Bodies.{micAt}
 use borrow.Author.Needs.{needs}
-use Rattle.frames.proofs.bodies.mic_at.Statement.{statement}
-use Rattle.frames.proofs.bodies.mic_at.Tie as tie
+use Rattle.bodies.proofs.mic_at.Statement.{statement}
+use Rattle.bodies.proofs.mic_at.Tie as tie
 
 enum-known-mic : tie.Need-enum-known-mic
 enum-known-mic c = search needs

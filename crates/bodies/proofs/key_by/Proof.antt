@@ -1,10 +1,10 @@
 use mathlib.Core.Path.{sym, subst, _∙_}
 use native.Mathlib.Omega.{arith}
 use lib.ListN.{length}
 use Rattle.frames.specs.First.{FirstLies}
 use borrow.Author.Needs.{needs}
-use Rattle.frames.proofs.bodies.key_by.Statement.{statement}
-use Rattle.frames.proofs.bodies.key_by.Tie as tie
+use Rattle.bodies.proofs.key_by.Statement.{statement}
+use Rattle.bodies.proofs.key_by.Tie as tie
 
 enum-known-frame : tie.Need-enum-known-frame
 enum-known-frame c = search needs

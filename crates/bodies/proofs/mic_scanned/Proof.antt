@@ -1,10 +1,10 @@
 use mathlib.Core.Path.{sym, _∙_}
 use lib.ListN.{length}
 use Rattle.elements.proofs.Scanning.{within}
 use Rattle.frames.proofs.Otherwise.{ordered}
 use borrow.Author.Needs.{needs}
-use Rattle.frames.proofs.bodies.mic_scanned.Statement.{statement}
-use Rattle.frames.proofs.bodies.mic_scanned.Tie as tie
+use Rattle.bodies.proofs.mic_scanned.Statement.{statement}
+use Rattle.bodies.proofs.mic_scanned.Tie as tie
 
 scan-body-requires : tie.Need-scan-body-requires
 scan-body-requires c κs = search needs

@@ -1,8 +1,8 @@
 use native.Mathlib.Omega.{arith}
-use Rattle.frames.proofs.bodies.Laws.{key-part-lies}
+use Rattle.bodies.proofs.Laws.{key-part-lies}
 use borrow.Author.Needs.{needs}
-use Rattle.frames.proofs.bodies.show_key.Statement.{statement}
-use Rattle.frames.proofs.bodies.show_key.Tie as tie
+use Rattle.bodies.proofs.show_key.Statement.{statement}
+use Rattle.bodies.proofs.show_key.Tie as tie
 
 key-part-requires : tie.Need-key-part-requires
 key-part-requires c κs = search needs

@@ -14,12 +14,12 @@ use Rattle.elements.specs.Body.{bodyOf}
 use Rattle.elements.specs.Scan.{scanOf}
 use Rattle.suites.specs.declared.GroupEntry.{GroupEntry}
 use Rattle.suites.specs.Tables.{isMicLength, groupOf, isKeyOf}
-use Rattle.frames.specs.declared.bodies.MicAnswer.{MicAnswer}
-use Rattle.frames.specs.declared.bodies.MicPlace.{MicPlace}
-use Rattle.frames.specs.declared.bodies.MicPlace.the-variants.{At, Nowhere}
 use Rattle.frames.specs.declared.first.First.{First}
 use Rattle.frames.specs.Contents.{content}
 use Rattle.frames.specs.First.{firstOf}
+use Rattle.bodies.specs.declared.MicAnswer.{MicAnswer}
+use Rattle.bodies.specs.declared.MicPlace.{MicPlace}
+use Rattle.bodies.specs.declared.MicPlace.the-variants.{At, Nowhere}
 
 abbrev pub nowhere : Part
 nowhere = record { start = 0; end = 0 }

@@ -9,8 +9,8 @@ use core::mem::size_of;
 #[derive(Clone, Copy)]
 struct HostRecord {
     address: [u8; 6],
-    pmkid: [u8; 16],
     has_pmkid: u8,
+    pmkid: [u8; 16],
     phase: u8,
     cipher: u8,
     akm: u8,

@@ -80,8 +80,8 @@ enum { GALEBEACON_WAITING = 0, GALEBEACON_KEY_INSTALLED = 1 };
 /* What is known of a station. It is live while until_tu is later than the clock reading; after that it is as if absent, and its place is free. */
 typedef struct galebeacon_record {
     uint8_t address[6];
-    uint8_t pmkid[16];         /* zeros where there is none */
     uint8_t has_pmkid;         /* 0 no; anything else yes, written 1 */
+    uint8_t pmkid[16];         /* zeros where there is none */
     uint8_t phase;             /* 0 waiting for the third frame; anything else installed, written 1 */
     uint8_t cipher;            /* pairwise cipher suite type: 4, 8, 9 or 10 */
     uint8_t akm;               /* AKM suite type: 5, 6, 8 or 21 */
@@ -215,7 +215,7 @@ uint8_t galebeacon_set_mic(uint8_t *body, size_t body_length, const uint8_t *mic
 #define GALEBEACON_ASSERT(name, fact) typedef char galebeacon_assert_##name[(fact) ? 1 : -1]
 #endif
 GALEBEACON_ASSERT(size_t, sizeof(size_t) == 8);
-GALEBEACON_ASSERT(record, sizeof(galebeacon_record) == 40 && offsetof(galebeacon_record, lifetime_seconds) == 28 && offsetof(galebeacon_record, until_tu) == 32);
+GALEBEACON_ASSERT(record, sizeof(galebeacon_record) == 40 && offsetof(galebeacon_record, pmkid) == 7 && offsetof(galebeacon_record, lifetime_seconds) == 28 && offsetof(galebeacon_record, until_tu) == 32);
 GALEBEACON_ASSERT(state, sizeof(galebeacon_state) == 648 && offsetof(galebeacon_state, latest_tu) == 640);
 GALEBEACON_ASSERT(settings, sizeof(galebeacon_settings) == 16 && offsetof(galebeacon_settings, lifetime_seconds) == 4);
 GALEBEACON_ASSERT(call, sizeof(galebeacon_call) == 32 && offsetof(galebeacon_call, point_valid) == 30);

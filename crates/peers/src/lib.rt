@@ -12,11 +12,11 @@ pub enum Phase {
     Installed(Tu),
 }
 
-// A record. Where it has no PMKID, `cached` is false and `pmkid` zeros.
+// A record. Where it has no PMKID, `cached` is false and `pmkid` zeros. Two arrays side by side would be copied as one, which takes longer.
 pub struct Peer {
     pub address: [u8; 6],
-    pub pmkid: [u8; 16],
     pub cached: bool,
+    pub pmkid: [u8; 16],
     pub phase: Phase,
     pub cipher: u8,
     pub akm: u8,

@@ -12,8 +12,8 @@ use units::Tu;
 #[repr(C)]
 pub struct Record {
     pub address: [u8; 6],
-    pub pmkid: [u8; 16],
     pub has_pmkid: u8,
+    pub pmkid: [u8; 16],
     pub phase: u8,
     pub cipher: u8,
     pub akm: u8,

@@ -18,7 +18,7 @@ use Rattle.rules.specs.declared.Verdict.{Verdict}
 use Rattle.rules.specs.OnePeer.{Left, same, gone, becomes, waitingGoes, withoutWaiting}
 use Rattle.rules.specs.Told.{leftOf}
 use Rattle.platform.specs.Promises.{Settles, isEarly, Dates, isWaiting}
-use Rattle.platform.specs.Inside.{waits, leftBy}
+use Rattle.platform.specs.Inside.{waits, changeOf, leftBy}
 
 -- a table at another latest reading shows the same
 abbrev pub dated : Table → Tu → Table
@@ -70,15 +70,22 @@ by-record : (own : Option Peer) → withoutWaiting own ≡ (if waits own then go
 by-record none = refl
 by-record (some p) = by-phase (p .phase)
 
-module _ (own : Option Peer) (v : Verdict) where
-  by-leaves : {leaves : Leaves} → v .leaves ≡ leaves → leftBy own v ≡ leftOf own leaves (v .peer)
-  by-leaves e = ap (λ (l : Leaves). leftOf own l (v .peer)) e
+-- what a change leaves
+abbrev pub leftAs : Leaves → Peer → Left
+leftAs Leaves.Same p = same
+leftAs Leaves.WaitingGoes p = gone
+leftAs Leaves.Becomes p = becomes p
 
-  pub left-same : v .leaves ≡ Leaves.Same → same ≡ leftBy own v
-  left-same e = sym (by-leaves e)
+module _ (own : Option Peer) (p : Peer) where
+  left-as : (leaves : Leaves) → leftAs (changeOf own leaves) p ≡ leftOf own leaves p
+  left-as Leaves.Same = refl
+  left-as Leaves.WaitingGoes = go (waits own) ∙ sym (by-record own)
+    where
+      go : (b : Bool) → leftAs (if b then Leaves.WaitingGoes else Leaves.Same) p ≡ (if b then gone else same)
+      go true = refl
+      go false = refl
+  left-as Leaves.Becomes = refl
 
-  pub left-goes : {b : Bool} → v .leaves ≡ Leaves.WaitingGoes → waits own ≡ b → (if b then gone else same) ≡ leftBy own v
-  left-goes e w = sym (by-leaves e ∙ by-record own ∙ ap (λ (b : Bool). if b then gone else same) w)
-
-  pub left-becomes : v .leaves ≡ Leaves.Becomes → becomes (v .peer) ≡ leftBy own v
-  left-becomes e = sym (by-leaves e)
+-- what the change that was made leaves is what the verdict leaves
+pub left-changed : (own : Option Peer) (v : Verdict) {change k : Leaves} → change ≡ changeOf own (v .leaves) → change ≡ k → leftAs k (v .peer) ≡ leftBy own v
+left-changed own v c e = ap (λ (k : Leaves). leftAs k (v .peer)) (sym e ∙ c) ∙ left-as own (v .peer) (v .leaves)

@@ -13,6 +13,8 @@ use Rattle.peers.specs.declared.Found.the-variants.{At, Free, Full}
 use Rattle.peers.specs.declared.Peer.{Peer}
 use Rattle.rules.specs.declared.Answer.{Answer}
 use Rattle.rules.specs.declared.Brought.{Brought}
+use Rattle.rules.specs.declared.Leaves.{Leaves}
+use Rattle.rules.specs.declared.Leaves.the-variants.{Same, WaitingGoes, Becomes}
 use Rattle.rules.specs.declared.Verdict.{Verdict}
 use Rattle.rules.specs.OnePeer.{Left, same, gone, becomes, clockFits, settingsFit, isGroupAddress}
 use Rattle.rules.specs.Told.{leftOf}
@@ -48,6 +50,12 @@ waits (some p) = isWaiting (p .phase)
 abbrev pub isInstalled : Option Peer → Bool
 isInstalled none = false
 isInstalled (some p) = not (isWaiting (p .phase))
+
+-- the change that a verdict asks for: a waiting record goes only where there is one
+abbrev pub changeOf : Option Peer → Leaves → Leaves
+changeOf own Same = Same
+changeOf own WaitingGoes = if waits own then WaitingGoes else Same
+changeOf own Becomes = Becomes
 
 -- what a verdict leaves of this peer's record
 abbrev pub leftBy : Option Peer → Verdict → Left

@@ -11,8 +11,8 @@ ghost use Rattle.peers.specs.View.{full, vacantPeer};
 ghost use Rattle.rules.specs.OnePeer.{numberOf, clockFits, settingsFit, isGroupAddress, firstFrame, thirdFrame, onBody};
 ghost use Rattle.rules.specs.Told.{callOf, Ready, Gets, Decides, thirdCall};
 ghost use Rattle.units.specs.Units.{inClock};
-ghost use Rattle.platform.specs.Inside.{checkedOf, seen, isFull, waits, isInstalled, leftBy, Seats};
-ghost use Rattle.platform.specs.Promises.{Settles, Receives, Removes, LooksUp, removalNumber, lookNumber};
+ghost use Rattle.platform.specs.Inside.{checkedOf, seen, isFull, waits, isInstalled, changeOf};
+ghost use Rattle.platform.specs.Promises.{Receives, Removes, LooksUp, removalNumber, lookNumber};
 use bodies::MicAnswer;
 use bodies::PASN;
 use elements::Opened;
@@ -208,31 +208,29 @@ fn is_installed(found: Found, peer: Peer) -> bool
     !is_waiting(found, peer)
 }
 
-// The table as a verdict leaves it, and the reading as its latest.
-fn settle(
-    t: Table,
-    address: [u8; 6],
-    reading: Tu,
-    found: Found,
-    peer: Peer,
-    verdict: Verdict,
-) -> Table
-    requires { ⌜ Seats address (full t reading address) (leftBy (seen found peer) verdict) ⌝ }
-    ensures { λ r. ⌜ Settles t address reading (leftBy (seen found peer) verdict) r × (r .latest ≡ reading) ⌝ }
+// The change of the table that a verdict asks for: a waiting record goes only where there is one.
+fn change_of(found: Found, peer: Peer, leaves: Leaves) -> Leaves
+    ensures { λ r. ⌜ r ≡ changeOf (seen found peer) leaves ⌝ }
 {
-    let leaves = verdict.leaves;
-    let next = verdict.peer;
-    let mut u = t;
-    u.latest = reading;
     match leaves {
-        Leaves::Same => u,
+        Leaves::Same => Leaves::Same,
         Leaves::WaitingGoes => {
             if is_waiting(found, peer) {
-                return peers::drop(u, address);
+                return Leaves::WaitingGoes;
             }
-            u
+            Leaves::Same
         }
-        Leaves::Becomes => peers::put(u, next, reading),
+        Leaves::Becomes => Leaves::Becomes,
+    }
+}
+
+fn given_back(table: Table, answer: Answer, length: usize) -> Received
+    ensures { λ r. ⌜ r ≡ record { table = table; answer = answer; length = length } ⌝ }
+{
+    Received {
+        table: table,
+        answer: answer,
+        length: length,
     }
 }
 
@@ -309,7 +307,7 @@ fn on_body(
 
 // A frame is received. The reply is the first `length` octets of its buffer; the rest is left alone.
 pub fn receive(
-    t: Table,
+    mut t: Table,
     brought: Brought,
     file: &[u8],
     key: &[u8],
@@ -321,29 +319,27 @@ pub fn receive(
 {
     let latest = t.latest;
     let checked = check_call(latest, brought, file, reply.len());
-    match checked {
-        Checked::Failed(answer) => Received {
-            table: t,
-            answer: answer,
-            length: 0,
-        },
-        Checked::Passed => {
-            let address = brought.address;
-            let reading = brought.reading;
-            let found = peers::find(t, address, reading);
-            let mut peer = peers::vacant();
-            if let Found::At(i) = found {
-                peer = t.peers[i];
-            }
-            let verdict = on_body(found, peer, brought, file, key, mic, body, reply);
-            let table = settle(t, address, reading, found, peer, verdict);
-            let answer = verdict.answer;
-            Received {
-                table: table,
-                answer: answer,
-                length: verdict.length,
-            }
-        }
+    if let Checked::Failed(answer) = checked {
+        return given_back(t, answer, 0);
+    }
+    let address = brought.address;
+    let reading = brought.reading;
+    let found = peers::find(t, address, reading);
+    let mut peer = peers::vacant();
+    if let Found::At(i) = found {
+        peer = t.peers[i];
+    }
+    let verdict = on_body(found, peer, brought, file, key, mic, body, reply);
+    let answer = verdict.answer;
+    let length = verdict.length;
+    let leaves = verdict.leaves;
+    let next = verdict.peer;
+    let change = change_of(found, peer, leaves);
+    t.latest = reading;
+    match change {
+        Leaves::Same => given_back(t, answer, length),
+        Leaves::WaitingGoes => given_back(peers::drop(t, address), answer, length),
+        Leaves::Becomes => given_back(peers::put(t, next, reading), answer, length),
     }
 }
 

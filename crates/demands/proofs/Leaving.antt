@@ -12,10 +12,9 @@ use Rattle.peers.specs.declared.Phase.{Phase}
 use Rattle.peers.specs.declared.Phase.the-variants.{Waiting, Installed}
 use Rattle.peers.specs.View.{until, live}
 use Rattle.rules.specs.OnePeer.{same, after, installedPeer, isGroupAddress}
-use Rattle.platform.specs.Promises.{isWaiting}
 use Rattle.demands.specs.Calls.{Frame, callFor, Ask, receive, remove, lookUp, readingOf, Alone, liveAt, outcomeFor, leaves}
 use Rattle.demands.specs.InstalledKey.{Makes, isRemoval}
-use Rattle.platform.specs.Inside.{isInstalled}
+use Rattle.calls.specs.Calls.{isWaiting, isInstalled}
 use Rattle.demands.proofs.Outcomes.{Kind, keeps, ends, begins, installs, kind-of, Made, begun, installed, made-of}
 
 pub live-earlier : (p : Peer) (n m : Tu) → n .0 ≤ m .0 → live p m ≡ true → live p n ≡ true

@@ -22,8 +22,7 @@ use Rattle.peers.specs.declared.Phase.{Phase}
 use Rattle.peers.specs.declared.Phase.the-variants.{Waiting, Installed}
 use Rattle.rules.specs.declared.Answer.{Answer}
 use Rattle.rules.specs.OnePeer.{Call, same, gone, becomes, Outcome, numberOf, waitingGoes, withoutWaiting, Step, refuse, pass, Passed, steps, waitingPeer, firstOutcome, firstOn, firstFrame, installedPeer, thirdMic, thirdAkm, thirdOn, thirdFrame, clockFits, settingsFit, isGroupAddress, onBody, receiveOf}
-use Rattle.platform.specs.Inside.{isInstalled}
-use Rattle.platform.specs.Promises.{isWaiting}
+use Rattle.calls.specs.Calls.{isWaiting, isInstalled}
 
 pub data Kind (call : Call) (own : Option Peer) (o : Outcome) : Type 0 where
   keeps : o .leaves ≡ same → Kind call own o

@@ -30,8 +30,7 @@ use Rattle.peers.specs.View.{shows, full}
 use Rattle.rules.specs.declared.Answer.{Answer}
 use Rattle.rules.specs.OnePeer.{Call, becomes, Outcome, numberOf, statusOf, clockFits, settingsFit, isGroupAddress, Step, refuse, pass, Passed, steps, acceptance, refusal, firstOutcome, firstOn, firstFrame, installedPeer, thirdMic, thirdAkm, thirdOn, thirdFrame, onBody, receiveOf}
 use Rattle.verdicts.proofs.Verdicts.{third-alike}
-use Rattle.platform.specs.Inside.{isInstalled}
-use Rattle.platform.specs.Promises.{isWaiting}
+use Rattle.calls.specs.Calls.{isWaiting, isInstalled}
 use Rattle.demands.specs.ReadsBack.{ChecksPass, FirstFrame, AcceptsFirst, RefusesFirst, AcceptsThird, AcceptanceIsExact}
 use Rattle.demands.proofs.CoincideLaws.{ruled}
 

@@ -15,7 +15,7 @@ use Rattle.rules.specs.OnePeer.{Call, Outcome, numberOf}
 use Rattle.platform.specs.Promises.{shownAfter, Answers}
 use Rattle.demands.specs.Edges.{tu, firstBody, thirdBody, station, hears, recordOf, gets}
 use Rattle.demands.specs.Coincide.{Reception}
-use Rattle.platform.specs.Inside.{isInstalled}
+use Rattle.calls.specs.Calls.{isInstalled}
 use Rattle.demands.specs.ShutsOut.{Responder, Meets, ConstantReply, WritesNothing, RecordsNothing, InstallsAtOnce, ShutsOut}
 use Rattle.demands.proofs.CoincideLaws.{ruled}
 use Rattle.octets.proofs.Parts.{wrote-stands}

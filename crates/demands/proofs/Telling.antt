@@ -15,7 +15,7 @@ use Rattle.peers.specs.declared.Phase.{Phase}
 use Rattle.peers.specs.declared.Phase.the-variants.{Waiting, Installed}
 use Rattle.peers.specs.View.{until, live}
 use Rattle.rules.specs.OnePeer.{Left, same, numberOf, peerAfter, waitingPeer, installedPeer, isGroupAddress, removeOf}
-use Rattle.platform.specs.Promises.{isWaiting}
+use Rattle.calls.specs.Calls.{isWaiting}
 use Rattle.demands.specs.Calls.{Frame, callFor, Ask, receive, remove, lookUp, whose, readingOf, Each, From, lastFrom, Alone, liveAt, outcomeFor, removalLeaves, leaves, next, unknown, aloneAfter}
 use Rattle.demands.specs.InstalledKey.{Makes, waitingSince, Spares, isRemoval, Holds}
 use Rattle.demands.proofs.Outcomes.{Kind, keeps, ends, begins, installs, kind-of}

@@ -29,7 +29,7 @@ use Rattle.peers.specs.View.{shows, full}
 use Rattle.rules.specs.declared.Answer.{Answer}
 use Rattle.rules.specs.OnePeer.{Call, numberOf, clockFits, settingsFit, isGroupAddress, refuse, pass, Passed, steps, lifetimeOf}
 use Rattle.platform.specs.declared.Received.{Received}
-use Rattle.platform.specs.Inside.{isInstalled}
+use Rattle.calls.specs.Calls.{isInstalled}
 use Rattle.platform.specs.Promises.{Receives}
 
 -- What receive accepts --------------------------------------------------------------------------------------------------------------------

@@ -8,7 +8,7 @@ use Rattle.units.specs.declared.Tu.{Tu}
 use Rattle.peers.specs.declared.Table.{Table}
 use Rattle.peers.specs.View.{shows}
 use Rattle.rules.specs.OnePeer.{Call, numberOf}
-use Rattle.platform.specs.Inside.{isInstalled}
+use Rattle.calls.specs.Calls.{isInstalled}
 use Rattle.platform.specs.Promises.{Receives}
 use Rattle.demands.specs.Coincide.{Reception}
 

@@ -1,37 +1,19 @@
 -- What a search's answer says, once it is taken apart.
-use mathlib.Core.Path.{_≡_, refl, ap, subst, _∙_}
+use mathlib.Core.Path.{_≡_, subst, _∙_}
 use mathlib.Core.List.{List}
-use mathlib.Core.Logic.{_⊎_, ⊎-elim}
-use mathlib.Core.Option.{none, some}
+use mathlib.Core.Option.{none}
 use Prim.Native.Nat.{ℕ}
-use native.Mathlib.Omega.{arith}
-use denote.Enum.Declared.{tagOf}
 use lib.ListN.{getD}
 use Rattle.units.specs.declared.Tu.{Tu}
 use Rattle.peers.specs.declared.Found.{Found}
-use Rattle.peers.specs.declared.Found.the-variants.{At, Free, Full}
+use Rattle.peers.specs.declared.Found.the-variants.{At}
 use Rattle.peers.specs.declared.Peer.{Peer}
 use Rattle.peers.specs.declared.Table.{Table}
 use Rattle.peers.specs.Promises.{Finds, FoundAt}
 use Rattle.peers.specs.View.{shows, full, noPeer}
-use Rattle.peers.proofs.Found as Found'
 use Rattle.peers.proofs.Laws.{full-shown}
-use Rattle.platform.specs.Inside.{seen, isFull}
-
--- where the code goes on without a place
-abbrev pub Nowhere : Found → Type 0
-Nowhere found = (tagOf Found'.the-type found ≡ 1) ⊎ (tagOf Found'.the-type found ≡ 2)
-
-nowhere : (P : Found → Type 0) → P Free → P Full → (found : Found) → Nowhere found → P found
-nowhere P x y (At i) h = absurd (⊎-elim (λ e. omega arith) (λ e. omega arith) h)
-nowhere P x y Free h = x
-nowhere P x y Full h = y
-
-pub seen-none : (found : Found) (peer : Peer) → Nowhere found → seen found peer ≡ none
-seen-none found peer h = nowhere (λ f. seen f peer ≡ none) refl refl found h
-
-pub seen-at : {found : Found} {i : ℕ} (peer : Peer) → found ≡ At i → seen found peer ≡ some peer
-seen-at peer e = ap (λ (f : Found). seen f peer) e
+use Rattle.calls.specs.Calls.{seen, isFull}
+use Rattle.calls.proofs.Seen.{Nowhere, nowhere, seen-none}
 
 -- what was seen of an address is what the table shows of it
 pub record Sees (t : Table) (a : List ℕ) (n : Tu) (found : Found) (peer : Peer) : Type 0 where

@@ -1,7 +1,5 @@
 pub mod Settling
 pub mod Finding
-pub mod Calls
-pub mod Bodies
 pub mod Sound
 pub mod Receiving
 pub mod Asking

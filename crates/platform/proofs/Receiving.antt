@@ -24,11 +24,12 @@ use Rattle.rules.specs.declared.Brought.{Brought}
 use Rattle.rules.specs.declared.Verdict.{Verdict}
 use Rattle.rules.specs.OnePeer.{Call, numberOf, Outcome, unchanged, clockFits, settingsFit, isGroupAddress, onBody, receiveOf}
 use Rattle.rules.specs.Told.{Ready, Gets}
-use Rattle.platform.specs.declared.Checked.{Checked}
-use Rattle.platform.specs.Inside.{checkedOf, seen, isFull, leftBy, Seats}
+use Rattle.calls.specs.declared.Checked.{Checked}
+use Rattle.calls.specs.Calls.{checkedOf, seen, isFull}
+use Rattle.calls.proofs.Calls.{broughtOf}
+use Rattle.platform.specs.Inside.{leftBy, Seats}
 use Rattle.platform.specs.Promises.{isEarly, Settles, Answers, Receives}
 use Rattle.platform.proofs.Settling.{dates-early, dates-late, settles-none, settles-by}
-use Rattle.platform.proofs.Calls.{broughtOf}
 use Rattle.platform.proofs.Finding.{Sees}
 use Rattle.platform.proofs.Sound.{Sound, Placed, sound}
 

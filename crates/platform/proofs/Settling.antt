@@ -17,8 +17,9 @@ use Rattle.rules.specs.declared.Leaves.{Leaves}
 use Rattle.rules.specs.declared.Verdict.{Verdict}
 use Rattle.rules.specs.OnePeer.{Left, same, gone, becomes, waitingGoes, withoutWaiting}
 use Rattle.rules.specs.Told.{leftOf}
-use Rattle.platform.specs.Promises.{Settles, isEarly, Dates, isWaiting}
-use Rattle.platform.specs.Inside.{waits, changeOf, leftBy}
+use Rattle.calls.specs.Calls.{isWaiting, waits, changeOf}
+use Rattle.platform.specs.Promises.{Settles, isEarly, Dates}
+use Rattle.platform.specs.Inside.{leftBy}
 
 -- a table at another latest reading shows the same
 abbrev pub dated : Table → Tu → Table

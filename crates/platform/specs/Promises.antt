@@ -10,8 +10,6 @@ use Rattle.octets.specs.Equality.{sameOctets}
 use Rattle.octets.specs.Wrote.{Wrote}
 use Rattle.units.specs.declared.Tu.{Tu}
 use Rattle.peers.specs.declared.Peer.{Peer}
-use Rattle.peers.specs.declared.Phase.{Phase}
-use Rattle.peers.specs.declared.Phase.the-variants.{Waiting, Installed}
 use Rattle.peers.specs.declared.Table.{Table}
 use Rattle.peers.specs.View.{other, shows, others, full, vacantPeer}
 use Rattle.peers.specs.Promises.{whileLive}
@@ -39,11 +37,6 @@ pub record Settles (t : Table) (address : List ℕ) (n : Tu) (left : Left) (r : 
   pub shown : (m : Tu) → n .0 ≤ m .0 → (b : List ℕ)
       → shows r m b ≡ (if sameOctets address b then shownAfter (shows t m b) m left else shows t m b)
   pub counted : (m : Tu) → n .0 ≤ m .0 → (these : List (List ℕ)) → others r m these ≡ countedAfter t address m these left
-
--- whether a record is a waiting one
-abbrev pub isWaiting : Phase → Bool
-isWaiting (Waiting deadline) = true
-isWaiting (Installed end) = false
 
 -- whether an answer is one of 1 to 5
 abbrev pub isEarly : ℕ → Bool

@@ -13,7 +13,8 @@ use Rattle.peers.specs.View.{shows, full}
 use Rattle.rules.specs.declared.Leaves.{Leaves}
 use Rattle.rules.specs.declared.Verdict.{Verdict}
 use Rattle.rules.specs.OnePeer.{Call, Outcome, onBody}
-use Rattle.platform.specs.Inside.{seen, isFull, Seats}
+use Rattle.calls.specs.Calls.{seen, isFull}
+use Rattle.platform.specs.Inside.{Seats}
 use Rattle.rules.specs.Told.{callOf, Gets}
 use Rattle.platform.specs.Promises.{Settles, Receives}
 use Rattle.platform.proofs.Settling.{settles-same, settles-gone, settles-becomes, settles-by, leftAs, left-changed}

@@ -15,9 +15,8 @@ use Rattle.rules.specs.declared.Leaves.{Leaves}
 use Rattle.rules.specs.declared.Verdict.{Verdict}
 use Rattle.rules.specs.OnePeer.{Call, unchanged, withoutWaiting, steps, firstOn, firstFrame, thirdFrame, byTransaction, onBody}
 use Rattle.rules.specs.Told.{leftOf, Only, Decides, firstFor}
-use Rattle.platform.specs.Promises.{isWaiting}
-use Rattle.platform.specs.Inside.{isInstalled}
-use Rattle.platform.proofs.Calls.{broughtOf, firstCall}
+use Rattle.calls.specs.Calls.{isWaiting, isInstalled}
+use Rattle.calls.proofs.Calls.{broughtOf, firstCall}
 
 -- a verdict after which a waiting record goes
 pub leaves-waiting : {answer : Answer} {r : Verdict} (own : Option Peer) → Only answer Leaves.WaitingGoes r

@@ -1,9 +1,9 @@
 use mathlib.Core.Path.{sym, _∙_}
 use borrow.Author.Tests.{lt-ltb, le-ltb, not-true, not-false}
-use Rattle.platform.specs.Inside.{checkedOf}
+use Rattle.calls.specs.Calls.{checkedOf}
 use borrow.Author.Needs.{needs}
-use Rattle.platform.proofs.check_call.Statement.{statement}
-use Rattle.platform.proofs.check_call.Tie as tie
+use Rattle.calls.proofs.check_call.Statement.{statement}
+use Rattle.calls.proofs.check_call.Tie as tie
 
 clock-fits-requires : tie.Need-clock-fits-requires
 clock-fits-requires c κs = search needs

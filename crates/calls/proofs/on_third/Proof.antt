@@ -4,11 +4,11 @@ use Rattle.peers.specs.declared.Peer.{Peer}
 use Rattle.rules.specs.OnePeer.{Outcome, thirdFrame}
 use Rattle.rules.specs.Told.{thirdCall, Decides}
 use Rattle.verdicts.proofs.Verdicts.{decides-same, stays}
-use Rattle.platform.specs.Inside.{seen}
-use Rattle.platform.proofs.Finding.{seen-at, seen-none}
+use Rattle.calls.specs.Calls.{seen}
+use Rattle.calls.proofs.Seen.{seen-at, seen-none}
 use borrow.Author.Needs.{needs}
-use Rattle.platform.proofs.on_third.Statement.{statement}
-use Rattle.platform.proofs.on_third.Tie as tie
+use Rattle.calls.proofs.on_third.Statement.{statement}
+use Rattle.calls.proofs.on_third.Tie as tie
 
 abbrev outcome : tie.Start → Option Peer → Outcome
 outcome s = thirdFrame (thirdCall (s .args .reading) (s .args .mic .now) (s .args .body .now)) (s .args .status)

@@ -1,6 +1,6 @@
 use borrow.Author.Tests.{lt-ltb, le-ltb, le-leb, lt-leb}
-use Rattle.platform.proofs.settings_fit.Statement.{statement}
-use Rattle.platform.proofs.settings_fit.Tie as tie
+use Rattle.calls.proofs.settings_fit.Statement.{statement}
+use Rattle.calls.proofs.settings_fit.Tie as tie
 
 returns : tie.Need-returns
 returns c =

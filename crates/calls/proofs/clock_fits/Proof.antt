@@ -1,7 +1,7 @@
 use borrow.Author.Tests.{le-leb, lt-leb}
 use borrow.Author.Needs.{needs}
-use Rattle.platform.proofs.clock_fits.Statement.{statement}
-use Rattle.platform.proofs.clock_fits.Tie as tie
+use Rattle.calls.proofs.clock_fits.Statement.{statement}
+use Rattle.calls.proofs.clock_fits.Tie as tie
 
 in-clock-requires : tie.Need-in-clock-requires
 in-clock-requires c κs = search needs

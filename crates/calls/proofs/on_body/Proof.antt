@@ -8,12 +8,12 @@ use Rattle.rules.specs.OnePeer.{Call}
 use Rattle.verdicts.proofs.Accepting.{gets-same}
 use Rattle.verdicts.proofs.Verdicts.{stays, decides-gets}
 use Rattle.rules.specs.Told.{callOf}
-use Rattle.platform.specs.Inside.{seen, isFull}
-use Rattle.platform.proofs.Calls.{first-same, third-same}
-use Rattle.platform.proofs.Bodies.{leaves-waiting, body-none, body-algorithm, body-first, body-third, body-neither}
+use Rattle.calls.specs.Calls.{seen, isFull}
+use Rattle.calls.proofs.Calls.{first-same, third-same}
+use Rattle.calls.proofs.Bodies.{leaves-waiting, body-none, body-algorithm, body-first, body-third, body-neither}
 use borrow.Author.Needs.{needs}
-use Rattle.platform.proofs.on_body.Statement.{statement}
-use Rattle.platform.proofs.on_body.Tie as tie
+use Rattle.calls.proofs.on_body.Statement.{statement}
+use Rattle.calls.proofs.on_body.Tie as tie
 
 abbrev call : tie.Start → Call
 call s = callOf (s .args .brought) (s .args .file .now) (s .args .key .now) (s .args .mic .now) (s .args .body .now) (length (s .args .reply .now))

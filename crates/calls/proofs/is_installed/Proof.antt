@@ -1,10 +1,10 @@
 use mathlib.Core.Path.{sym, ap, _∙_}
 use mathlib.Core.Bool.{not}
 use borrow.Author.Needs.{needs}
-use Rattle.platform.specs.Inside.{waits, isInstalled}
-use Rattle.platform.proofs.Finding.{seen-at, seen-none}
-use Rattle.platform.proofs.is_installed.Statement.{statement}
-use Rattle.platform.proofs.is_installed.Tie as tie
+use Rattle.calls.specs.Calls.{waits, isInstalled}
+use Rattle.calls.proofs.Seen.{seen-at, seen-none}
+use Rattle.calls.proofs.is_installed.Statement.{statement}
+use Rattle.calls.proofs.is_installed.Tie as tie
 
 enum-told : tie.Need-enum-told
 enum-told c = search needs

@@ -5,11 +5,11 @@ use Rattle.rules.specs.OnePeer.{Call}
 use Rattle.rules.specs.Told.{callOf, firstFor}
 use Rattle.verdicts.proofs.Accepting.{gets-same}
 use Rattle.verdicts.proofs.Verdicts.{stays, decides-gets}
-use Rattle.platform.specs.Inside.{seen, isFull}
-use Rattle.platform.proofs.Bodies.{first-installed, first-open}
+use Rattle.calls.specs.Calls.{seen, isFull}
+use Rattle.calls.proofs.Bodies.{first-installed, first-open}
 use borrow.Author.Needs.{needs}
-use Rattle.platform.proofs.on_first.Statement.{statement}
-use Rattle.platform.proofs.on_first.Tie as tie
+use Rattle.calls.proofs.on_first.Statement.{statement}
+use Rattle.calls.proofs.on_first.Tie as tie
 
 abbrev call : tie.Start → Call
 call s = callOf (s .args .brought) (s .args .file .now) (s .args .key .now) [] (s .args .body .now) 0

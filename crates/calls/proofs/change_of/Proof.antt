@@ -1,7 +1,7 @@
 use mathlib.Core.Path.{sym, _∙_}
 use borrow.Author.Needs.{needs}
-use Rattle.platform.proofs.change_of.Statement.{statement}
-use Rattle.platform.proofs.change_of.Tie as tie
+use Rattle.calls.proofs.change_of.Statement.{statement}
+use Rattle.calls.proofs.change_of.Tie as tie
 
 enum-told : tie.Need-enum-told
 enum-told c = search needs

@@ -1,9 +1,9 @@
 use mathlib.Core.Path.{sym, ap}
-use Rattle.platform.specs.Inside.{waits}
-use Rattle.platform.proofs.Finding.{seen-none}
+use Rattle.calls.specs.Calls.{waits}
+use Rattle.calls.proofs.Seen.{seen-none}
 use borrow.Author.Needs.{needs}
-use Rattle.platform.proofs.is_waiting.Statement.{statement}
-use Rattle.platform.proofs.is_waiting.Tie as tie
+use Rattle.calls.proofs.is_waiting.Statement.{statement}
+use Rattle.calls.proofs.is_waiting.Tie as tie
 
 enum-told : tie.Need-enum-told
 enum-told c = search needs

@@ -3,7 +3,7 @@ use units::Seconds;
 use units::Tu;
 ghost use mathlib.Core.Path.{_≡_};
 ghost use mathlib.Core.List.{[], _∷_};
-ghost use Rattle.peers.specs.View.{live, isOf, other, vacantPeer};
+ghost use Rattle.peers.specs.View.{until, live, isOf, other, vacantPeer};
 ghost use Rattle.peers.specs.Promises.{Nobody, Finds, Puts, Drops};
 
 // A handshake that waits for its third frame until a deadline, or a key that is installed until its end.
@@ -37,14 +37,22 @@ pub enum Found {
     Full,
 }
 
+// The deadline of the one, the end of the other.
+pub fn until(phase: Phase) -> Tu
+    ensures { λ r. ⌜ r ≡ until phase ⌝ }
+{
+    match phase {
+        Phase::Waiting(deadline) => deadline,
+        Phase::Installed(end) => end,
+    }
+}
+
 fn is_live(p: Peer, at: Tu) -> bool
     ensures { λ r. ⌜ r ≡ live p at ⌝ }
 {
     let phase = p.phase;
-    match phase {
-        Phase::Waiting(deadline) => at.0 < deadline.0,
-        Phase::Installed(end) => at.0 < end.0,
-    }
+    let time = until(phase);
+    at.0 < time.0
 }
 
 fn is_of(p: Peer, address: [u8; 6]) -> bool

@@ -53,7 +53,8 @@ fn put_peer(peer: Peer) {
     put(b" ");
     put_number(lifetime.0 as u64);
     put(b" ");
-    put_number(until(phase));
+    let time = peers::until(phase);
+    put_number(time.0);
 }
 
 fn put_phase(phase: Phase) {
@@ -64,13 +65,6 @@ fn put_phase(phase: Phase) {
         Phase::Installed(_) => {
             put(b" installed ");
         }
-    }
-}
-
-fn until(phase: Phase) -> u64 {
-    match phase {
-        Phase::Waiting(deadline) => deadline.0,
-        Phase::Installed(end) => end.0,
     }
 }
 

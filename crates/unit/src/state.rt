@@ -1,7 +1,6 @@
 // The state that a host keeps: numbers of which any octets are a legal value, and the table that they are.
 ghost use mathlib.Core.Path.{_≡_};
 ghost use Rattle.unit.specs.Crossing.{isYes, yesNumber, phaseOf, phaseNumber, peerOf, recordOf, tableOf, stateOf};
-ghost use Rattle.peers.specs.View.{until};
 use peers::Peer;
 use peers::Phase;
 use peers::Table;
@@ -61,15 +60,6 @@ fn phase_number(phase: Phase) -> u8
     }
 }
 
-fn until_of(phase: Phase) -> u64
-    ensures { λ r. ⌜ r ≡ until phase .0 ⌝ }
-{
-    match phase {
-        Phase::Waiting(deadline) => deadline.0,
-        Phase::Installed(end) => end.0,
-    }
-}
-
 fn peer_of(r: Record) -> Peer
     ensures { λ p. ⌜ p ≡ peerOf r ⌝ }
 {
@@ -93,6 +83,7 @@ pub fn record_of(p: Peer) -> Record
     let pmkid = p.pmkid;
     let phase = p.phase;
     let lifetime = p.lifetime;
+    let until = peers::until(phase);
     Record {
         address: address,
         pmkid: pmkid,
@@ -101,7 +92,7 @@ pub fn record_of(p: Peer) -> Record
         cipher: p.cipher,
         akm: p.akm,
         lifetime_seconds: lifetime.0,
-        until_tu: until_of(phase),
+        until_tu: until.0,
     }
 }
 

@@ -3,19 +3,19 @@ use Rattle.unit.specs.Crossing.{recordOf}
 use Rattle.unit.proofs.state.record_of.Statement.{statement}
 use Rattle.unit.proofs.state.record_of.Tie as tie
 
+until-requires : tie.Need-until-requires
+until-requires c κs = search needs
+
 yes-number-requires : tie.Need-yes-number-requires
 yes-number-requires c κs = search needs
 
 phase-number-requires : tie.Need-phase-number-requires
 phase-number-requires c κs = search needs
 
-until-of-requires : tie.Need-until-of-requires
-until-of-requires c κs = search needs
-
 returns : tie.Need-returns
 unfolding recordOf
-returns c = rw (c .before .before .yes-number .ensures, c .before .phase-number .ensures, c .until-of .ensures)
+returns c = rw (c .before .yes-number .ensures, c .phase-number .ensures, c .before .before .until .ensures)
 
 pub record-of-spec : {M : Type 1} → statement M
 record-of-spec =
-    tie.close (tie.spec yes-number-requires phase-number-requires until-of-requires returns)
+    tie.close (tie.spec until-requires yes-number-requires phase-number-requires returns)

@@ -202,6 +202,24 @@ const SOUND_CAPABILITIES: [u16; 5] = [0x00c0, 0x00c0, 0x00c1, 0xffc0, 0x3cfd];
 const UNKNOWN_IDS: [u8; 12] = [0, 1, 8, 47, 49, 57, 100, 139, 141, 243, 244, 254];
 const UNKNOWN_EXTENSIONS: [u8; 9] = [0, 7, 9, 48, 56, 99, 101, 140, 242];
 const OTHER_TYPES: [u8; 9] = [0, 1, 2, 6, 7, 11, 12, 20, 255];
+/// Length and first octet of keys that no group has.
+const WRONG_KEYS: [(usize, u8); 15] = [
+    (0, 0),
+    (1, 2),
+    (32, 2),
+    (34, 3),
+    (64, 4),
+    (66, 4),
+    (33, 0),
+    (33, 1),
+    (33, 4),
+    (33, 6),
+    (33, 0x82),
+    (65, 2),
+    (65, 3),
+    (65, 5),
+    (65, 0x84),
+];
 
 /// How a run of calls is meant to go.
 #[derive(Clone)]
@@ -699,21 +717,10 @@ impl Generator {
     }
 
     fn spoil_own_key(&mut self) {
-        let (length, first) = self.random.pick(&[
-            (0, 0),
-            (1, 2),
-            (32, 2),
-            (34, 3),
-            (64, 4),
-            (66, 4),
-            (255, 4),
-            (33, 4),
-            (33, 1),
-            (65, 2),
-            (65, 3),
-            (65, 5),
-            (33, 0x82),
-        ]);
+        let (length, first) = match self.random.below(14) {
+            0 => (255, 4),
+            _ => self.random.pick(&WRONG_KEYS),
+        };
         let key = &mut self.call.setup.own_key;
         key.clear();
         key.put_random(length, &mut self.random);
@@ -1230,21 +1237,7 @@ impl Generator {
     }
 
     fn spoil_key(&mut self, frame: &mut Frame) {
-        let (length, first) = self.random.pick(&[
-            (0, 0),
-            (1, 2),
-            (32, 2),
-            (34, 3),
-            (64, 4),
-            (66, 4),
-            (33, 4),
-            (33, 0),
-            (33, 6),
-            (65, 2),
-            (65, 3),
-            (65, 5),
-            (65, 0x84),
-        ]);
+        let (length, first) = self.random.pick(&WRONG_KEYS);
         frame.set_key(length, first, &mut self.random);
     }
 

@@ -49,13 +49,6 @@ struct ReceiveResult {
     answer: u8,
     status: u16,
     length: usize,
-    state: State,
-}
-
-#[repr(C)]
-struct RemoveResult {
-    answer: u8,
-    state: State,
 }
 
 #[repr(C)]
@@ -71,13 +64,13 @@ struct KeyPlace {
 }
 
 const _: () = assert!(size_of::<HostRecord>() == 40 && size_of::<State>() == 648);
-const _: () = assert!(size_of::<HostCall>() == 32 && size_of::<ReceiveResult>() == 664);
+const _: () = assert!(size_of::<HostCall>() == 32 && size_of::<ReceiveResult>() == 16);
 
 // A slice crosses as two words, its pointer and its length.
 extern "C" {
     fn galebeacon_empty() -> State;
     fn galebeacon_receive(
-        state: State,
+        state: &mut State,
         call: HostCall,
         cache: *const u8,
         cache_length: usize,
@@ -90,8 +83,8 @@ extern "C" {
         reply: *mut u8,
         reply_length: usize,
     ) -> ReceiveResult;
-    fn galebeacon_look_up(state: State, address: &[u8; 6], reading_tu: u64) -> LookUpResult;
-    fn galebeacon_remove(state: State, address: &[u8; 6], reading_tu: u64) -> RemoveResult;
+    fn galebeacon_look_up(state: &State, address: &[u8; 6], reading_tu: u64) -> LookUpResult;
+    fn galebeacon_remove(state: &mut State, address: &[u8; 6], reading_tu: u64) -> u8;
     fn galebeacon_show_key(body: *const u8, body_length: usize) -> KeyPlace;
     fn galebeacon_zero_mic(
         body: *const u8,
@@ -164,7 +157,7 @@ impl Unit {
         // SAFETY: each pointer and length are of one slice, and only `reply` is written.
         let result = unsafe {
             galebeacon_receive(
-                self.state,
+                &mut self.state,
                 call,
                 cache.as_ptr(),
                 cache.len(),
@@ -178,7 +171,6 @@ impl Unit {
                 reply.len(),
             )
         };
-        self.state = result.state;
         Received {
             answer: result.answer,
             status: result.status,
@@ -188,7 +180,7 @@ impl Unit {
 
     pub fn look(&self, now: Tu, address: &Address) -> LookUpResult {
         // SAFETY: the address is six octets.
-        unsafe { galebeacon_look_up(self.state, address, now.0) }
+        unsafe { galebeacon_look_up(&self.state, address, now.0) }
     }
 }
 
@@ -211,9 +203,7 @@ impl Side for Unit {
 
     fn remove(&mut self, now: Tu, address: Address) -> u8 {
         // SAFETY: the address is six octets.
-        let result = unsafe { galebeacon_remove(self.state, &address, now.0) };
-        self.state = result.state;
-        result.answer
+        unsafe { galebeacon_remove(&mut self.state, &address, now.0) }
     }
 
     fn show_key(&self, body: &[u8]) -> Place {

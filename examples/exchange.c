@@ -63,7 +63,7 @@ static galebeacon_call call_at(uint64_t reading_tu, int point_valid) {
     return call;
 }
 
-static void look_up(galebeacon_state state, uint64_t reading_tu, unsigned wanted) {
+static void look_up(const galebeacon_state *state, uint64_t reading_tu, unsigned wanted) {
     galebeacon_look_up_result r = galebeacon_look_up(state, station, reading_tu);
     expect("look up", r.answer, wanted);
     if (r.answer == GALEBEACON_SHOWN)
@@ -81,9 +81,8 @@ static void first(galebeacon_state *state, uint8_t *reply, size_t reply_length) 
     memset(own_key, 0x77, sizeof own_key);
     own_key[0] = 3;
     memset(mic, 0xbb, sizeof mic);
-    r = galebeacon_receive(*state, call_at(5000, 1), cache, sizeof cache, own_key, sizeof own_key, mic, 0,
+    r = galebeacon_receive(state, call_at(5000, 1), cache, sizeof cache, own_key, sizeof own_key, mic, 0,
                            first_frame, sizeof first_frame, reply, reply_length);
-    *state = r.state;
     expect("receive the first frame", r.answer, GALEBEACON_ACCEPTED);
     expect("set the second frame's MIC", galebeacon_set_mic(reply, r.length, mic, sizeof mic), GALEBEACON_MIC_DONE);
     print_octets("the second frame", reply, r.length);
@@ -94,17 +93,15 @@ static void third(galebeacon_state *state, uint64_t reading_tu, uint8_t *reply, 
     galebeacon_receive_result r;
     expect("zero the third frame's MIC", galebeacon_zero_mic(third_frame, sizeof third_frame, input, sizeof input), GALEBEACON_MIC_DONE);
     memset(mic, 0xaa, sizeof mic); /* what the chip makes of `input` */
-    r = galebeacon_receive(*state, call_at(reading_tu, 0), cache, sizeof cache, mic, 0, mic, sizeof mic,
+    r = galebeacon_receive(state, call_at(reading_tu, 0), cache, sizeof cache, mic, 0, mic, sizeof mic,
                            third_frame, sizeof third_frame, reply, reply_length);
-    *state = r.state;
     expect("receive the third frame", r.answer, wanted);
 }
 
 /* A first frame that is cut short is refused, with a status and a reply of 6 octets. */
 static void refused(galebeacon_state *state, uint64_t reading_tu, uint8_t *reply, size_t reply_length) {
-    galebeacon_receive_result r = galebeacon_receive(*state, call_at(reading_tu, 1), cache, sizeof cache, cache, 0, cache, 0,
+    galebeacon_receive_result r = galebeacon_receive(state, call_at(reading_tu, 1), cache, sizeof cache, cache, 0, cache, 0,
                                                      first_frame, sizeof first_frame - 1, reply, reply_length);
-    *state = r.state;
     expect("receive a cut first frame", r.answer, GALEBEACON_REFUSED);
     expect("    with the status", r.status, 40);
     print_octets("the refusal", reply, r.length);
@@ -113,18 +110,15 @@ static void refused(galebeacon_state *state, uint64_t reading_tu, uint8_t *reply
 int main(void) {
     static uint8_t reply[GALEBEACON_SMALLEST_REPLY];
     galebeacon_state state = galebeacon_empty();
-    galebeacon_remove_result gone;
-    look_up(state, 4000, GALEBEACON_NO_RECORD);
+    look_up(&state, 4000, GALEBEACON_NO_RECORD);
     refused(&state, 4500, reply, sizeof reply);
     first(&state, reply, sizeof reply);
-    look_up(state, 5000, GALEBEACON_SHOWN);
+    look_up(&state, 5000, GALEBEACON_SHOWN);
     third(&state, 5003, reply, sizeof reply, GALEBEACON_INSTALLED);
-    look_up(state, 5003, GALEBEACON_SHOWN);
+    look_up(&state, 5003, GALEBEACON_SHOWN);
     third(&state, 5004, reply, sizeof reply, GALEBEACON_NO_EXCHANGE);
-    look_up(state, 5003, GALEBEACON_CLOCK);
-    gone = galebeacon_remove(state, station, 6000);
-    state = gone.state;
-    expect("remove", gone.answer, GALEBEACON_REMOVED);
-    look_up(state, 6000, GALEBEACON_NO_RECORD);
+    look_up(&state, 5003, GALEBEACON_CLOCK);
+    expect("remove", galebeacon_remove(&state, station, 6000), GALEBEACON_REMOVED);
+    look_up(&state, 6000, GALEBEACON_NO_RECORD);
     return 0;
 }

@@ -16,13 +16,13 @@
  *
  * Every call with memory as below is allowed: wrong input gets an answer, and each operation returns. What the answers mean is proved.
  *
- * Memory. No operation allocates, waits, or keeps anything between calls, its pointers included: the state is a plain value that the caller keeps,
- * hands over and replaces by the one it gets back. Two threads may be in an operation at once if neither writes what the other was lent. The archive
- * calls memcpy and memset and nothing else. The deepest call measured took 5,700 octets of stack, copies of the state included: allow GALEBEACON_STACK.
+ * Memory. No operation allocates, waits, or keeps anything between calls, its pointers included: the state is a plain value that the caller keeps, may copy,
+ * and lends. Two threads may be in an operation at once if neither writes what the other was lent. The archive
+ * calls memcpy and memset and nothing else. The deepest call measured took 6,900 octets of stack, copies of the state included: allow GALEBEACON_STACK.
  *
  * Slices. A buffer crosses as two arguments: a pointer to its first octet, then its length in octets. The pointer is never null, also where the length is 0.
- * The pointer to an address leads to 6 octets. A buffer that an operation writes to (its pointer is not const) must not overlap any other buffer of that
- * call. Those that are only read may overlap.
+ * The pointer to an address leads to 6 octets, the one to a state to a galebeacon_state; neither is null. What an operation writes to (its pointer is not const)
+ * must not overlap anything else that is lent to that call. What is only read may overlap.
  *
  * Units. A name ends in _seconds or in _tu. A TU is 1,024 microseconds. The clock counts TU, may stand still between calls, and never goes back.
  */
@@ -125,14 +125,13 @@ typedef struct galebeacon_call {
 } galebeacon_call;
 
 typedef struct galebeacon_receive_result {
-    uint8_t answer;         /* 0 to 15 */
-    uint16_t status;        /* beside answer 11 the status of the refusal; else 0 */
-    size_t length;          /* beside 0 and 11 the length of the reply; else 0, and nothing was written */
-    galebeacon_state state; /* keep this one */
+    uint8_t answer;  /* 0 to 15 */
+    uint16_t status; /* beside answer 11 the status of the refusal; else 0 */
+    size_t length;   /* beside 0 and 11 the length of the reply; else 0, and nothing was written */
 } galebeacon_receive_result;
 
 /*
- * A frame came in.
+ * A frame came in. The state that is lent becomes the one that the call leaves.
  *
  *   cache   the PMKs that the unit has: up to 64 records of 28 octets. Each is 31 hex, 19 hex, 00, the PMKID (16 octets), the AKM suite type (1) and the
  *           end (8 octets, low octet first, in TU). No octets: no PMK.
@@ -159,7 +158,7 @@ typedef struct galebeacon_receive_result {
  * 77 group; 53 PMKID; 30 all sixteen places are taken, and the station may try again.
  */
 galebeacon_receive_result galebeacon_receive(
-    galebeacon_state state,
+    galebeacon_state *state,
     galebeacon_call call,
     const uint8_t *cache, size_t cache_length,
     const uint8_t *key, size_t key_length,
@@ -174,16 +173,11 @@ typedef struct galebeacon_look_up_result {
     galebeacon_record shown; /* the record beside 18; zeros beside any other answer */
 } galebeacon_look_up_result;
 
-/* The live record of a station. No state comes back, since a look-up changes nothing, its latest reading included. */
-galebeacon_look_up_result galebeacon_look_up(galebeacon_state state, const uint8_t *address, uint64_t reading_tu);
+/* The live record of a station. A look-up changes nothing, the latest reading included. */
+galebeacon_look_up_result galebeacon_look_up(const galebeacon_state *state, const uint8_t *address, uint64_t reading_tu);
 
-typedef struct galebeacon_remove_result {
-    uint8_t answer;         /* 16 removed; 17 no live record; 1 clock; 4 group address */
-    galebeacon_state state; /* keep this one; as it was beside 1 and 4 */
-} galebeacon_remove_result;
-
-/* The record of a station goes, waiting or installed. */
-galebeacon_remove_result galebeacon_remove(galebeacon_state state, const uint8_t *address, uint64_t reading_tu);
+/* The record of a station goes, waiting or installed. 16 removed; 17 no live record; 1 clock; 4 group address. Beside 1 and 4 the state is as it was. */
+uint8_t galebeacon_remove(galebeacon_state *state, const uint8_t *address, uint64_t reading_tu);
 
 /* ---- Bodies ----------------------------------------------------------------------------------------------------------------------------- */
 
@@ -219,8 +213,7 @@ GALEBEACON_ASSERT(record, sizeof(galebeacon_record) == 40 && offsetof(galebeacon
 GALEBEACON_ASSERT(state, sizeof(galebeacon_state) == 648 && offsetof(galebeacon_state, latest_tu) == 640);
 GALEBEACON_ASSERT(settings, sizeof(galebeacon_settings) == 16 && offsetof(galebeacon_settings, lifetime_seconds) == 4);
 GALEBEACON_ASSERT(call, sizeof(galebeacon_call) == 32 && offsetof(galebeacon_call, point_valid) == 30);
-GALEBEACON_ASSERT(receive_result, sizeof(galebeacon_receive_result) == 664 && offsetof(galebeacon_receive_result, state) == 16);
-GALEBEACON_ASSERT(remove_result, sizeof(galebeacon_remove_result) == 656 && offsetof(galebeacon_remove_result, state) == 8);
+GALEBEACON_ASSERT(receive_result, sizeof(galebeacon_receive_result) == 16 && offsetof(galebeacon_receive_result, status) == 2 && offsetof(galebeacon_receive_result, length) == 8);
 GALEBEACON_ASSERT(look_up_result, sizeof(galebeacon_look_up_result) == 48 && offsetof(galebeacon_look_up_result, shown) == 8);
 GALEBEACON_ASSERT(key_place, sizeof(galebeacon_key_place) == 16);
 #undef GALEBEACON_ASSERT

@@ -11,18 +11,21 @@ use Rattle.rules.specs.declared.Answer.{Answer}
 use Rattle.rules.specs.declared.Brought.{Brought}
 use Rattle.rules.specs.declared.Settings.{Settings}
 use Rattle.rules.specs.OnePeer.{numberOf, statusOf}
+use Rattle.rules.specs.Told.{callOf}
 use Rattle.platform.specs.declared.Received.{Received}
 use Rattle.platform.specs.declared.Removed.{Removed}
 use Rattle.platform.specs.declared.LookedUp.{LookedUp}
-use Rattle.platform.specs.Promises.{removalNumber, lookNumber, LooksUp}
+use Rattle.platform.specs.Promises.{removalNumber, lookNumber, Receives, Removes, LooksUp}
 use Rattle.unit.specs.declared.HostSettings.{HostSettings}
 use Rattle.unit.specs.declared.HostCall.{HostCall}
 use Rattle.unit.specs.declared.ReceiveResult.{ReceiveResult}
-use Rattle.unit.specs.declared.RemoveResult.{RemoveResult}
+use Rattle.unit.specs.declared.Receiving.{Receiving}
+use Rattle.unit.specs.declared.Removing.{Removing}
 use Rattle.unit.specs.declared.LookUpResult.{LookUpResult}
 use Rattle.unit.specs.declared.KeyPlace.{KeyPlace}
 use Rattle.unit.specs.declared.state.Record.{Record}
-use Rattle.unit.specs.Crossing.{isYes, recordOf, stateOf}
+use Rattle.unit.specs.declared.state.State.{State}
+use Rattle.unit.specs.Crossing.{isYes, recordOf, tableOf, stateOf}
 
 abbrev pub settingsOf : HostSettings → Settings
 settingsOf s = record {
@@ -48,11 +51,11 @@ orZero (some n) = n
 abbrev pub statusNumber : Answer → ℕ
 statusNumber answer = orZero (statusOf answer)
 
-abbrev pub receiveResultOf : Received → ReceiveResult
-receiveResultOf r = record { answer = numberOf (r .answer); status = statusNumber (r .answer); length = r .length; state = stateOf (r .table) }
+abbrev pub receivingOf : Received → Receiving
+receivingOf r = record { state = stateOf (r .table); result = record { answer = numberOf (r .answer); status = statusNumber (r .answer); length = r .length } }
 
-abbrev pub removeResultOf : Removed → RemoveResult
-removeResultOf r = record { answer = removalNumber (r .answer); state = stateOf (r .table) }
+abbrev pub removingOf : Removed → Removing
+removingOf r = record { state = stateOf (r .table); answer = removalNumber (r .answer) }
 
 abbrev pub lookUpResultOf : LookedUp → LookUpResult
 lookUpResultOf r = record { answer = lookNumber (r .answer); shown = recordOf (r .peer) }
@@ -62,6 +65,17 @@ pub record Told {A B : Type 0} (Promised : A → Type 0) (tell : A → B) (r : B
   pub outcome : A
   pub promised : Promised outcome
   pub told : r ≡ tell outcome
+
+-- A receive leaves a state and tells a result; a removal likewise.
+abbrev pub ReceivesIn : State → HostCall → (cache key mic body before : List ℕ) → State → ReceiveResult → (after : List ℕ) → Type 0
+ReceivesIn s call cache key mic body before s' result after =
+    Told (Receives (tableOf s) (callOf (broughtOf call) cache key mic body (length before)) before after) receivingOf (record { state = s'; result = result })
+
+abbrev pub LooksUpIn : State → (address : List ℕ) (reading : ℕ) → LookUpResult → Type 0
+LooksUpIn s address reading r = Told (LooksUp (tableOf s) address (record { 0 = reading })) lookUpResultOf r
+
+abbrev pub RemovesIn : State → (address : List ℕ) (reading : ℕ) → State → (answer : ℕ) → Type 0
+RemovesIn s address reading s' answer = Told (Removes (tableOf s) address (record { 0 = reading })) removingOf (record { state = s'; answer = answer })
 
 -- The key's place in the body: where it begins and how many octets it has, and 0 and 0 where no key is shown.
 pub record KeyAt (body : List ℕ) (r : KeyPlace) : Type 0 where

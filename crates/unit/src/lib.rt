@@ -3,10 +3,8 @@ ghost use mathlib.Core.Path.{_≡_};
 ghost use lib.ListN.{length};
 ghost use Rattle.bodies.specs.Bodies.{numberOf, zeroAnswer, zeroed, setAnswer, setOctets};
 ghost use Rattle.peers.specs.Promises.{Nobody};
-ghost use Rattle.platform.specs.Promises.{Receives, Removes, LooksUp};
-ghost use Rattle.rules.specs.Told.{callOf};
 ghost use Rattle.unit.specs.Crossing.{tableOf};
-ghost use Rattle.unit.specs.Promises.{settingsOf, broughtOf, statusNumber, receiveResultOf, removeResultOf, lookUpResultOf, Told, KeyAt};
+ghost use Rattle.unit.specs.Promises.{settingsOf, broughtOf, statusNumber, receivingOf, removingOf, lookUpResultOf, ReceivesIn, LooksUpIn, RemovesIn, KeyAt};
 
 mod state;
 
@@ -39,18 +37,23 @@ pub struct HostCall {
     pub point_valid: u8,
 }
 
+// What a receive tells.
 #[repr(C)]
 pub struct ReceiveResult {
     pub answer: u8,
     pub status: u16,
     pub length: usize,
-    pub state: State,
 }
 
-#[repr(C)]
-pub struct RemoveResult {
-    pub answer: u8,
-    pub state: State,
+// The state that a receive leaves, and what it tells; of a removal likewise.
+struct Receiving {
+    state: State,
+    result: ReceiveResult,
+}
+
+struct Removing {
+    state: State,
+    answer: u8,
 }
 
 #[repr(C)]
@@ -98,27 +101,30 @@ fn status_number(answer: Answer) -> u16
     }
 }
 
-fn receive_result(r: Received) -> ReceiveResult
-    ensures { λ told. ⌜ told ≡ receiveResultOf r ⌝ }
+fn receive_told(r: Received) -> Receiving
+    ensures { λ told. ⌜ told ≡ receivingOf r ⌝ }
 {
     let answer = r.answer;
     let table = r.table;
-    ReceiveResult {
+    let result = ReceiveResult {
         answer: platform::answer_number(answer),
         status: status_number(answer),
         length: r.length,
+    };
+    Receiving {
         state: state::state_of(table),
+        result: result,
     }
 }
 
-fn remove_result(r: Removed) -> RemoveResult
-    ensures { λ told. ⌜ told ≡ removeResultOf r ⌝ }
+fn remove_told(r: Removed) -> Removing
+    ensures { λ told. ⌜ told ≡ removingOf r ⌝ }
 {
     let answer = r.answer;
     let table = r.table;
-    RemoveResult {
-        answer: platform::removal_number(answer),
+    Removing {
         state: state::state_of(table),
+        answer: platform::removal_number(answer),
     }
 }
 
@@ -140,8 +146,7 @@ pub extern "C" fn galebeacon_empty() -> State
     state::state_of(platform::empty())
 }
 
-#[no_mangle]
-pub extern "C" fn galebeacon_receive(
+fn receive_in(
     state: State,
     call: HostCall,
     cache: &[u8],
@@ -149,37 +154,64 @@ pub extern "C" fn galebeacon_receive(
     mic: &[u8],
     body: &[u8],
     reply: &mut [u8],
-) -> ReceiveResult
-    ensures { λ r. ⌜ Told (Receives (tableOf state) (callOf (broughtOf call) (now (cache .entry)) (now (key .entry)) (now (mic .entry)) (now (body .entry)) (length (now (reply .entry)))) (now (reply .entry)) (now (reply .exit))) receiveResultOf r ⌝ }
+) -> Receiving
+    ensures { λ r. ⌜ ReceivesIn state call (now (cache .entry)) (now (key .entry)) (now (mic .entry)) (now (body .entry)) (now (reply .entry)) (r .state) (r .result) (now (reply .exit)) ⌝ }
 {
     let t = state::table_of(state);
     let brought = brought_of(call);
     let received = platform::receive(t, brought, cache, key, mic, body, reply);
-    receive_result(received)
+    receive_told(received)
 }
 
 #[no_mangle]
-pub extern "C" fn galebeacon_look_up(
-    state: State,
-    address: &[u8; 6],
-    reading_tu: u64,
-) -> LookUpResult
-    ensures { λ r. ⌜ Told (LooksUp (tableOf state) (now (address .entry)) (record { 0 = «reading_tu» })) lookUpResultOf r ⌝ }
+pub extern "C" fn galebeacon_receive(
+    state: &mut State,
+    call: HostCall,
+    cache: &[u8],
+    key: &[u8],
+    mic: &[u8],
+    body: &[u8],
+    reply: &mut [u8],
+) -> ReceiveResult
+    ensures { λ r. ⌜ ReceivesIn (now (state .entry)) call (now (cache .entry)) (now (key .entry)) (now (mic .entry)) (now (body .entry)) (now (reply .entry)) (now (state .exit)) r (now (reply .exit)) ⌝ }
+{
+    let r = receive_in(*state, call, cache, key, mic, body, reply);
+    *state = r.state;
+    r.result
+}
+
+fn look_up_in(state: State, address: &[u8; 6], reading_tu: u64) -> LookUpResult
+    ensures { λ r. ⌜ LooksUpIn state (now (address .entry)) «reading_tu» r ⌝ }
 {
     let a = *address;
     look_up_result(platform::look_up(state::table_of(state), a, Tu(reading_tu)))
 }
 
 #[no_mangle]
-pub extern "C" fn galebeacon_remove(
-    state: State,
+pub extern "C" fn galebeacon_look_up(
+    state: &State,
     address: &[u8; 6],
     reading_tu: u64,
-) -> RemoveResult
-    ensures { λ r. ⌜ Told (Removes (tableOf state) (now (address .entry)) (record { 0 = «reading_tu» })) removeResultOf r ⌝ }
+) -> LookUpResult
+    ensures { λ r. ⌜ LooksUpIn (now (state .entry)) (now (address .entry)) «reading_tu» r ⌝ }
+{
+    look_up_in(*state, address, reading_tu)
+}
+
+fn remove_in(state: State, address: &[u8; 6], reading_tu: u64) -> Removing
+    ensures { λ r. ⌜ RemovesIn state (now (address .entry)) «reading_tu» (r .state) (r .answer) ⌝ }
 {
     let a = *address;
-    remove_result(platform::remove(state::table_of(state), a, Tu(reading_tu)))
+    remove_told(platform::remove(state::table_of(state), a, Tu(reading_tu)))
+}
+
+#[no_mangle]
+pub extern "C" fn galebeacon_remove(state: &mut State, address: &[u8; 6], reading_tu: u64) -> u8
+    ensures { λ r. ⌜ RemovesIn (now (state .entry)) (now (address .entry)) «reading_tu» (now (state .exit)) r ⌝ }
+{
+    let r = remove_in(*state, address, reading_tu);
+    *state = r.state;
+    r.answer
 }
 
 #[no_mangle]

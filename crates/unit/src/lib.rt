@@ -146,6 +146,7 @@ pub extern "C" fn galebeacon_empty() -> State
     state::state_of(platform::empty())
 }
 
+// Each operation on the state is here by value; the exported one beside it lends the state.
 fn receive_in(
     state: State,
     call: HostCall,

@@ -154,7 +154,7 @@ impl Unit {
     pub fn take(&mut self, call: HostCall, arrival: &Arrival, reply: &mut [u8]) -> Received {
         let (cache, body) = (arrival.cache, arrival.body);
         let (key, mic) = (arrival.lent.own_key, arrival.lent.mic);
-        // SAFETY: each pointer and length are of one slice, and only `reply` is written.
+        // SAFETY: each pointer and length are of one slice, and only `reply` and the state are written.
         let result = unsafe {
             galebeacon_receive(
                 &mut self.state,

@@ -47,7 +47,7 @@ pub fn until(phase: Phase) -> Tu
     }
 }
 
-fn is_live(p: Peer, at: Tu) -> bool
+pub fn is_live(p: Peer, at: Tu) -> bool
     ensures { λ r. ⌜ r ≡ live p at ⌝ }
 {
     let phase = p.phase;
@@ -55,14 +55,14 @@ fn is_live(p: Peer, at: Tu) -> bool
     at.0 < time.0
 }
 
-fn is_of(p: Peer, address: [u8; 6]) -> bool
+pub fn is_of(p: Peer, address: [u8; 6]) -> bool
     ensures { λ r. ⌜ r ≡ isOf p address ⌝ }
 {
     octets::same(&p.address, &address)
 }
 
 // Whether p is a live record of another address.
-fn is_other(p: Peer, address: [u8; 6], at: Tu) -> bool
+pub fn is_other(p: Peer, address: [u8; 6], at: Tu) -> bool
     ensures { λ r. ⌜ r ≡ other at (address ∷ []) p ⌝ }
 {
     if is_live(p, at) {

@@ -1,6 +1,6 @@
 -- A receive, by its checks and by what its body gets.
-use mathlib.Core.Path.{_≡_, refl, sym, subst, _∙_}
-use mathlib.Core.Bool.{Bool, true, false, _&&_, not}
+use mathlib.Core.Path.{_≡_, refl, sym, ap, subst, _∙_}
+use mathlib.Core.Bool.{Bool, true, false, _&&_, not, true≢false}
 use mathlib.Core.List.{List}
 use mathlib.Core.Option.{Option}
 use Prim.Native.Nat.{ℕ, _^_}
@@ -17,21 +17,23 @@ use Rattle.peers.specs.declared.Found.{Found}
 use Rattle.peers.specs.declared.Found.the-variants.{At, Free, Full}
 use Rattle.peers.specs.declared.Peer.{Peer}
 use Rattle.peers.specs.declared.Table.{Table}
-use Rattle.peers.specs.View.{full}
+use Rattle.peers.specs.Promises.{Puts, Drops}
 use Rattle.peers.proofs.Laws.{shown-is}
 use Rattle.rules.specs.declared.Answer.{Answer}
 use Rattle.rules.specs.declared.Brought.{Brought}
+use Rattle.rules.specs.declared.Leaves.{Leaves}
 use Rattle.rules.specs.declared.Verdict.{Verdict}
-use Rattle.rules.specs.OnePeer.{Call, numberOf, Outcome, unchanged, clockFits, settingsFit, isGroupAddress, onBody, receiveOf}
+use Rattle.rules.specs.OnePeer.{Call, numberOf, Left, same, gone, becomes, Outcome, unchanged, clockFits, settingsFit, isGroupAddress, onBody, receiveOf}
 use Rattle.rules.specs.Told.{Ready, Gets}
 use Rattle.calls.specs.declared.Checked.{Checked}
-use Rattle.calls.specs.Calls.{checkedOf, seen, isFull}
+use Rattle.calls.specs.Calls.{checkedOf, seen, isFull, changeOf}
 use Rattle.calls.proofs.Calls.{broughtOf}
-use Rattle.platform.specs.Inside.{leftBy, Seats}
-use Rattle.platform.specs.Promises.{isEarly, Settles, Answers, Receives}
-use Rattle.platform.proofs.Settling.{dates-early, dates-late, settles-none, settles-by}
+use Rattle.platform.specs.declared.Decision.{Decision}
+use Rattle.platform.specs.Inside.{Seats}
+use Rattle.platform.specs.Promises.{isEarly, Settles, leftBy, DecidesBy, Receives}
+use Rattle.platform.proofs.Settling.{dated, settles-same, settles-gone, settles-becomes, settles-by, left-by}
 use Rattle.platform.proofs.Finding.{Sees}
-use Rattle.platform.proofs.Sound.{Sound, Placed, sound}
+use Rattle.platform.proofs.Sound.{Placed, sound}
 
 -- where the checks fail, nothing changes; where they pass, the body decides
 abbrev Comes : Checked → Outcome → Outcome → Type 0
@@ -102,18 +104,38 @@ module _ (latest : Tu) (brought : Brought) (file : List ℕ) (room : ℕ) where
   ready c e = subst Assured (sym c ∙ e) (assured (not (clockFits latest (brought .reading))) (ltb room 148) (not (settingsFit (brought .settings)))
       (isGroupAddress (brought .address)) (not (isWellFormed file)) (double _) refl (double _) (double _))
 
-module _ (t : Table) (call : Call) where
-  pub answers-failed : {o : Outcome} {answer : Answer} (before : List ℕ) → (o ≡ unchanged answer) × (isEarly (numberOf answer) ≡ true)
-      → Answers t call o before before (record { table = t; answer = answer; length = 0 })
-  answers-failed {answer = answer} before e = subst (λ (o : Outcome). Answers t call o before before (record { table = t; answer = answer; length = 0 })) (sym (e .0)) (record {
-    answer = refl;
-    reply = wrote-none before;
-    dates = dates-early t (call .reading) (e .1);
-    settles = settles-none t (call .address) (call .reading);
-  })
+-- a decision: where the checks fail nothing changes, and else it is what the body gets
+module _ (call : Call) (latest : Tu) (full : Bool) (own : Option Peer) where
+  pub decides-failed : {answer : Answer} (p : Peer) (before : List ℕ) → (receiveOf latest full own call ≡ unchanged answer) × (isEarly (numberOf answer) ≡ true)
+      → DecidesBy call latest full own before before (record { answer = answer; length = 0; latest = latest; change = Leaves.Same; peer = p })
+  decides-failed p before e = record { answer = rw (e .0); reply = rw (e .0) (wrote-none before); leaves = rw (e .0); dates = rw (e .1) }
 
--- where the checks pass: by what was seen of this peer
-module _ (t : Table) (call : Call) (found : Found) (peer : Peer) (w : Sees t (call .address) (call .reading) found peer) where
+  pub decides-passed : {before after : List ℕ} {v : Verdict} {change : Leaves}
+      → receiveOf latest full own call ≡ onBody call (bodyOf (call .body)) full own
+      → Gets (onBody call (bodyOf (call .body)) full own) own before after v → change ≡ changeOf own (v .leaves)
+      → DecidesBy call latest full own before after (record { answer = v .answer; length = v .length; latest = call .reading; change = change; peer = v .peer })
+  decides-passed {v = v} e g c = record {
+    answer = rw e (g .answer);
+    reply = rw e (g .wrote);
+    leaves = rw (e, c) (left-by own (v .peer) (v .leaves) ∙ g .leaves);
+    dates = rw (g .answer, sound call full own (bodyOf (call .body)) .late);
+  }
+
+-- a record that stays
+abbrev Stays : Left → Type 0
+Stays same = Unit {0}
+Stays gone = ⊥
+Stays (becomes p) = ⊥
+
+-- the table after a decision, by what the search saw of this peer
+module _ (t : Table) (call : Call) (found : Found) (peer : Peer) (w : Sees t (call .address) (call .reading) found peer)
+    {before after : List ℕ} {d : Decision} (g : DecidesBy call (t .latest) (isFull found) (seen found peer) before after d) where
+  abbrev outcome : Outcome
+  outcome = receiveOf (t .latest) (isFull found) (seen found peer) call
+
+  abbrev body's : Outcome
+  body's = onBody call (bodyOf (call .body)) (isFull found) (seen found peer)
+
   placed : Placed call (isFull found) (seen found peer)
   placed = go found w
     where
@@ -122,20 +144,48 @@ module _ (t : Table) (call : Call) (found : Found) (peer : Peer) (w : Sees t (ca
       go Free w = tt
       go Full w = tt
 
-  module _ {before after : List ℕ} {v : Verdict} (g : Gets (onBody call (bodyOf (call .body)) (isFull found) (seen found peer)) (seen found peer) before after v) where
-    is-sound : Sound call (isFull found) (onBody call (bodyOf (call .body)) (isFull found) (seen found peer))
-    is-sound = sound call (isFull found) (seen found peer) placed (bodyOf (call .body))
+  -- an answer of 1 to 5 leaves the record, and one that is made is of this address and has a place
+  abbrev Sure : Outcome → Type 0
+  Sure o = (isEarly (numberOf (o .answer)) ≡ true → Stays (o .leaves)) × Seats (call .address) (isFull found) (o .leaves)
 
-    pub seated : Seats (call .address) (full t (call .reading) (call .address)) (leftBy (seen found peer) v)
-    seated = rw (w .filled, g .leaves) (is-sound .seats)
+  sure : Sure outcome
+  sure = go (checkedOf (t .latest) (broughtOf call) (call .cache) (call .room)) (by-checks (t .latest) call (isFull found) (seen found peer))
+    where
+      go : (k : Checked) → Comes k outcome body's → Sure outcome
+      go (Checked.Failed answer) e = subst Sure (sym (e .0)) (λ h. tt, tt)
+      go Checked.Passed e =
+          let s = sound call (isFull found) (seen found peer) (bodyOf (call .body)) in
+          subst Sure (sym e) (λ h. absurd (true≢false (sym h ∙ s .late)), s .seats placed)
 
-    pub answers-settled : {r : Table}
-        → receiveOf (t .latest) (isFull found) (seen found peer) call ≡ onBody call (bodyOf (call .body)) (isFull found) (seen found peer)
-        → Settles t (call .address) (call .reading) (leftBy (seen found peer) v) r × (r .latest ≡ call .reading)
-        → Receives t call before after (record { table = r; answer = v .answer; length = v .length })
-    answers-settled e h = rw (w .filled, w .shown, e) (record {
+  module _ {k : Leaves} (c : d .change ≡ k) where
+    left : leftBy k (d .peer) ≡ outcome .leaves
+    left = ap (λ (k : Leaves). leftBy k (d .peer)) (sym c) ∙ g .leaves
+
+    stays : isEarly (numberOf (outcome .answer)) ≡ true → Stays (leftBy k (d .peer))
+    stays h = subst Stays (sym left) (sure .0 h)
+
+    dated-by : (b : Bool) → isEarly (numberOf (outcome .answer)) ≡ b → d .latest ≡ (if b then t .latest else call .reading)
+    dated-by b h = g .dates ∙ rw (g .answer, h)
+
+    received : {r : Table} → (isEarly (numberOf (outcome .answer)) ≡ true → r ≡ t) → r .latest ≡ d .latest
+        → Settles t (call .address) (call .reading) (leftBy k (d .peer)) r
+        → Receives t call before after (record { table = r; answer = d .answer; length = d .length })
+    received early l s = rw (w .filled, w .shown) (record {
       answer = g .answer;
-      reply = g .wrote;
-      dates = dates-late t (is-sound .late) (h .1);
-      settles = settles-by t (call .address) (call .reading) (h .0) (g .leaves);
+      reply = g .reply;
+      dates = record { early = early; latest = λ h. l ∙ dated-by false h };
+      settles = settles-by t (call .address) (call .reading) s left;
     })
+
+  pub received-same : d .change ≡ Leaves.Same → Receives t call before after (record { table = dated t (d .latest); answer = d .answer; length = d .length })
+  received-same c = received c (λ h. ap (dated t) (dated-by c true h)) refl (settles-same t (call .address) (call .reading))
+
+  pub received-gone : {r : Table} → d .change ≡ Leaves.WaitingGoes → Drops (dated t (d .latest)) (call .address) r
+      → Receives t call before after (record { table = r; answer = d .answer; length = d .length })
+  received-gone c u = received c (λ h. absurd (stays c h)) (u .latest) (settles-gone t (call .address) (call .reading) u)
+
+  pub received-becomes : {r : Table} → d .change ≡ Leaves.Becomes → Puts (dated t (d .latest)) (d .peer) (call .reading) r
+      → Receives t call before after (record { table = r; answer = d .answer; length = d .length })
+  received-becomes c u =
+      let h = subst (Seats (call .address) (isFull found)) (sym (left c)) (sure .1) in
+      received c (λ h. absurd (stays c h)) (u .latest) (settles-becomes t (call .address) (call .reading) (d .peer) (h .0) (w .filled ∙ h .1) u)

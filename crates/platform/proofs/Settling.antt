@@ -14,12 +14,10 @@ use Rattle.peers.specs.declared.Table.{Table}
 use Rattle.peers.specs.Promises.{whileLive, Puts, Drops}
 use Rattle.peers.specs.View.{other, shows, others, full}
 use Rattle.rules.specs.declared.Leaves.{Leaves}
-use Rattle.rules.specs.declared.Verdict.{Verdict}
 use Rattle.rules.specs.OnePeer.{Left, same, gone, becomes, waitingGoes, withoutWaiting}
 use Rattle.rules.specs.Told.{leftOf}
 use Rattle.calls.specs.Calls.{isWaiting, waits, changeOf}
-use Rattle.platform.specs.Promises.{Settles, isEarly, Dates}
-use Rattle.platform.specs.Inside.{leftBy}
+use Rattle.platform.specs.Promises.{leftBy, Settles, isEarly, Dates}
 
 -- a table at another latest reading shows the same
 abbrev pub dated : Table → Tu → Table
@@ -37,7 +35,7 @@ module _ (t : Table) where
   dates-late e l = record { early = λ h. absurd (true≢false (sym h ∙ e)); latest = λ h. l }
 
 module _ (t : Table) (a : List ℕ) (n : Tu) where
-  pub settles-same : Settles t a n same (dated t n)
+  pub settles-same : {l : Tu} → Settles t a n same (dated t l)
   unfolding shows others
   settles-same = record { shown = λ m h b. either (sameOctets a b) (shows t m b); counted = λ m h these. refl }
 
@@ -45,13 +43,13 @@ module _ (t : Table) (a : List ℕ) (n : Tu) where
   pub settles-none : Settles t a n same t
   settles-none = record { shown = λ m h b. either (sameOctets a b) (shows t m b); counted = λ m h these. refl }
 
-  pub settles-gone : {r : Table} → Drops (dated t n) a r → Settles t a n gone r
+  pub settles-gone : {l : Tu} {r : Table} → Drops (dated t l) a r → Settles t a n gone r
   unfolding shows others
   settles-gone d = record { shown = λ m h b. d .shown m b; counted = λ m h these. d .counted m these }
 
-  pub settles-becomes : {r : Table} (p : Peer) → p .address ≡ a → full t n a ≡ false → Puts (dated t n) p n r → Settles t a n (becomes p) r
+  pub settles-becomes : {l : Tu} {r : Table} (p : Peer) → p .address ≡ a → full t n a ≡ false → Puts (dated t l) p n r → Settles t a n (becomes p) r
   unfolding shows others full
-  settles-becomes {r} p e f u =
+  settles-becomes p e f u =
       let g : full t n (p .address) ≡ false = ap (full t n) e ∙ f in
       record {
         shown = λ m h b. u .shown g m h b ∙ ap (λ (l : List ℕ). if sameOctets l b then whileLive p m else shows t m b) e;
@@ -71,22 +69,12 @@ by-record : (own : Option Peer) → withoutWaiting own ≡ (if waits own then go
 by-record none = refl
 by-record (some p) = by-phase (p .phase)
 
--- what a change leaves
-abbrev pub leftAs : Leaves → Peer → Left
-leftAs Leaves.Same p = same
-leftAs Leaves.WaitingGoes p = gone
-leftAs Leaves.Becomes p = becomes p
-
-module _ (own : Option Peer) (p : Peer) where
-  left-as : (leaves : Leaves) → leftAs (changeOf own leaves) p ≡ leftOf own leaves p
-  left-as Leaves.Same = refl
-  left-as Leaves.WaitingGoes = go (waits own) ∙ sym (by-record own)
-    where
-      go : (b : Bool) → leftAs (if b then Leaves.WaitingGoes else Leaves.Same) p ≡ (if b then gone else same)
-      go true = refl
-      go false = refl
-  left-as Leaves.Becomes = refl
-
--- what the change that was made leaves is what the verdict leaves
-pub left-changed : (own : Option Peer) (v : Verdict) {change k : Leaves} → change ≡ changeOf own (v .leaves) → change ≡ k → leftAs k (v .peer) ≡ leftBy own v
-left-changed own v c e = ap (λ (k : Leaves). leftAs k (v .peer)) (sym e ∙ c) ∙ left-as own (v .peer) (v .leaves)
+-- a change leaves what the verdict leaves that asks for it
+pub left-by : (own : Option Peer) (p : Peer) (leaves : Leaves) → leftBy (changeOf own leaves) p ≡ leftOf own leaves p
+left-by own p Leaves.Same = refl
+left-by own p Leaves.WaitingGoes = go (waits own) ∙ sym (by-record own)
+  where
+    go : (b : Bool) → leftBy (if b then Leaves.WaitingGoes else Leaves.Same) p ≡ (if b then gone else same)
+    go true = refl
+    go false = refl
+left-by own p Leaves.Becomes = refl

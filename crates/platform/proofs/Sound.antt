@@ -1,4 +1,4 @@
--- A body's outcome is none of the answers 1 to 5, and a record that it makes is of this address and has a place.
+-- A body's outcome is none of the answers 1 to 5. A record that it makes is of this address and has a place, if the one that there was did.
 use mathlib.Core.Path.{_≡_, refl}
 use mathlib.Core.Bool.{Bool, true, false, not}
 use mathlib.Core.Option.{Option, none, some}
@@ -42,13 +42,19 @@ roomy call full =
     roomy-last full _))))
 
 module _ (call : Call) (full : Bool) where
-  pub record Sound (o : Outcome) : Type 0 where
-    pub seats : Seats (call .address) full (o .leaves)
-    pub late : isEarly (numberOf (o .answer)) ≡ false
+  -- a record that there is is of this address, and has its place
+  abbrev pub Placed : Option Peer → Type 0
+  Placed none = Unit {0}
+  Placed (some p) = Seats (call .address) full (becomes p)
 
-  either : (b : Bool) {o p : Outcome} → Sound o → Sound p → Sound (if b then o else p)
-  either true s u = s
-  either false s u = u
+  module _ (own : Option Peer) where
+    pub record Sound (o : Outcome) : Type 0 where
+      pub seats : Placed own → Seats (call .address) full (o .leaves)
+      pub late : isEarly (numberOf (o .answer)) ≡ false
+
+    either : (b : Bool) {o p : Outcome} → Sound o → Sound p → Sound (if b then o else p)
+    either true s u = s
+    either false s u = u
 
   by-phase : (phase : Phase) → Seats (call .address) full (waitingGoes phase)
   by-phase (Waiting deadline) = tt
@@ -62,45 +68,40 @@ module _ (call : Call) (full : Bool) where
   refused true own = tt
   refused false own = without own
 
-  first-sound : (algorithm : ℕ) (own : Option Peer) (s : Step Passed) → Roomy full s → Sound (firstOutcome call algorithm own s)
-  first-sound algorithm own (refuse status) h = record { seats = refused (eqb status 30) own; late = refl }
+  first-sound : (algorithm : ℕ) (own : Option Peer) (s : Step Passed) → Roomy full s → Sound own (firstOutcome call algorithm own s)
+  first-sound algorithm own (refuse status) h = record { seats = λ placed. refused (eqb status 30) own; late = refl }
   first-sound algorithm own (pass passed) h =
-      either (isKeyOf (passed .group) (call .key)) (record { seats = (refl, h); late = refl }) (record { seats = tt; late = refl })
+      either own (isKeyOf (passed .group) (call .key)) (record { seats = λ placed. (refl, h); late = refl }) (record { seats = λ placed. tt; late = refl })
 
-  first-on : (algorithm : ℕ) (own : Option Peer) (phase : Phase) → Sound (firstOn call algorithm full own phase)
+  first-on : (algorithm : ℕ) (own : Option Peer) (phase : Phase) → Sound own (firstOn call algorithm full own phase)
   first-on algorithm own (Waiting deadline) = first-sound algorithm own (steps call full) (roomy call full)
-  first-on algorithm own (Installed end) = record { seats = tt; late = refl }
+  first-on algorithm own (Installed end) = record { seats = λ placed. tt; late = refl }
 
-  first : (algorithm : ℕ) (own : Option Peer) → Sound (firstFrame call algorithm full own)
+  first : (algorithm : ℕ) (own : Option Peer) → Sound own (firstFrame call algorithm full own)
   first algorithm none = first-sound algorithm none (steps call full) (roomy call full)
   first algorithm (some p) = first-on algorithm (some p) (p .phase)
 
-  -- a record that there is is of this address, and has its place
-  abbrev pub Placed : Option Peer → Type 0
-  Placed none = Unit {0}
-  Placed (some p) = Seats (call .address) full (becomes p)
-
-  module _ (p : Peer) (placed : Placed (some p)) where
-    by-mic : (third : Third) → Sound (thirdMic call p third)
+  module _ (p : Peer) where
+    by-mic : (third : Third) → Sound (some p) (thirdMic call p third)
     by-mic (Third.Mic part) =
-        either (sameOctets (content (call .body) part) (call .mic)) (record { seats = placed; late = refl }) (record { seats = tt; late = refl })
-    by-mic Third.Ill = record { seats = tt; late = refl }
+        either (some p) (sameOctets (content (call .body) part) (call .mic)) (record { seats = λ placed. placed; late = refl }) (record { seats = λ placed. tt; late = refl })
+    by-mic Third.Ill = record { seats = λ placed. tt; late = refl }
 
-    by-akm : (entry : AkmEntry) → Sound (thirdAkm call p entry)
+    by-akm : (entry : AkmEntry) → Sound (some p) (thirdAkm call p entry)
     by-akm (AkmEntry.In akm) = by-mic (thirdOf (call .body) (akm .mic))
-    by-akm AkmEntry.NotInTable = record { seats = tt; late = refl }
+    by-akm AkmEntry.NotInTable = record { seats = λ placed. tt; late = refl }
 
-    third-on : (status : ℕ) (phase : Phase) → Sound (thirdOn call status p phase)
-    third-on status (Waiting deadline) = either (eqb status 0) (by-akm (akmOf (p .akm))) (record { seats = tt; late = refl })
-    third-on status (Installed end) = record { seats = tt; late = refl }
+    third-on : (status : ℕ) (phase : Phase) → Sound (some p) (thirdOn call status p phase)
+    third-on status (Waiting deadline) = either (some p) (eqb status 0) (by-akm (akmOf (p .akm))) (record { seats = λ placed. tt; late = refl })
+    third-on status (Installed end) = record { seats = λ placed. tt; late = refl }
 
-  third : (status : ℕ) (own : Option Peer) → Placed own → Sound (thirdFrame call status own)
-  third status none h = record { seats = tt; late = refl }
-  third status (some p) h = third-on p h status (p .phase)
+  third : (status : ℕ) (own : Option Peer) → Sound own (thirdFrame call status own)
+  third status none = record { seats = λ placed. tt; late = refl }
+  third status (some p) = third-on p status (p .phase)
 
-  pub sound : (own : Option Peer) → Placed own → (opened : Opened) → Sound (onBody call opened full own)
-  sound own h (Opened.Body header) =
-      either (not (eqb (header .algorithm) 7)) (record { seats = without own; late = refl })
-      (either (eqb (header .transaction) 1) (first (header .algorithm) own)
-      (either (eqb (header .transaction) 3) (third (header .status) own h) (record { seats = tt; late = refl })))
-  sound own h Opened.NoBody = record { seats = tt; late = refl }
+  pub sound : (own : Option Peer) → (opened : Opened) → Sound own (onBody call opened full own)
+  sound own (Opened.Body header) =
+      either own (not (eqb (header .algorithm) 7)) (record { seats = λ placed. without own; late = refl })
+      (either own (eqb (header .transaction) 1) (first (header .algorithm) own)
+      (either own (eqb (header .transaction) 3) (third (header .status) own) (record { seats = λ placed. tt; late = refl })))
+  sound own Opened.NoBody = record { seats = λ placed. tt; late = refl }

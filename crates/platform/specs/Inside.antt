@@ -3,15 +3,7 @@ use Prim.Native.Nat.{ℕ}
 use mathlib.Core.Path.{_≡_}
 use mathlib.Core.Bool.{Bool, false}
 use mathlib.Core.List.{List}
-use mathlib.Core.Option.{Option}
-use Rattle.peers.specs.declared.Peer.{Peer}
-use Rattle.rules.specs.declared.Verdict.{Verdict}
 use Rattle.rules.specs.OnePeer.{Left, same, gone, becomes}
-use Rattle.rules.specs.Told.{leftOf}
-
--- what a verdict leaves of this peer's record
-abbrev pub leftBy : Option Peer → Verdict → Left
-leftBy own v = leftOf own (v .leaves) (v .peer)
 
 -- the record that a call makes is of this address, and has a place
 abbrev pub Seats : List ℕ → Bool → Left → Type 0

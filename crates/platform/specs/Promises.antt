@@ -13,7 +13,9 @@ use Rattle.peers.specs.declared.Peer.{Peer}
 use Rattle.peers.specs.declared.Table.{Table}
 use Rattle.peers.specs.View.{other, shows, others, full, vacantPeer}
 use Rattle.peers.specs.Promises.{whileLive}
+use Rattle.rules.specs.declared.Leaves.{Leaves}
 use Rattle.rules.specs.OnePeer.{Call, Left, same, gone, becomes, Outcome, numberOf, receiveOf, removeOf, lookUpOf}
+use Rattle.platform.specs.declared.Decision.{Decision}
 use Rattle.platform.specs.declared.Received.{Received}
 use Rattle.platform.specs.declared.Removal.{Removal}
 use Rattle.platform.specs.declared.Removed.{Removed}
@@ -53,6 +55,19 @@ pub record Answers (t : Table) (call : Call) (outcome : Outcome) (before after :
   pub reply : Wrote (outcome .reply) (r .length) before after
   pub dates : Dates t (call .reading) (numberOf (outcome .answer)) (r .table)
   pub settles : Settles t (call .address) (call .reading) (outcome .leaves) (r .table)
+
+-- what a change leaves of this peer's record
+abbrev pub leftBy : Leaves → Peer → Left
+leftBy Leaves.Same p = same
+leftBy Leaves.WaitingGoes p = gone
+leftBy Leaves.Becomes p = becomes p
+
+-- What a receive decides, by the latest reading, whether the table is full for this peer, and its record or none.
+pub record DecidesBy (call : Call) (latest : Tu) (full : Bool) (own : Option Peer) (before after : List ℕ) (r : Decision) : Type 0 where
+  pub answer : r .answer ≡ receiveOf latest full own call .answer
+  pub reply : Wrote (receiveOf latest full own call .reply) (r .length) before after
+  pub leaves : leftBy (r .change) (r .peer) ≡ receiveOf latest full own call .leaves
+  pub dates : r .latest ≡ (if isEarly (numberOf (r .answer)) then latest else call .reading)
 
 -- A receive gets what the one-peer rules give, by what the table shows of this address.
 abbrev pub Receives : Table → Call → List ℕ → List ℕ → Received → Type 0

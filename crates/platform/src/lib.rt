@@ -7,7 +7,8 @@ ghost use Rattle.peers.specs.Promises.{Nobody};
 ghost use Rattle.peers.specs.View.{vacantPeer};
 ghost use Rattle.rules.specs.OnePeer.{numberOf};
 ghost use Rattle.rules.specs.Told.{callOf};
-ghost use Rattle.platform.specs.Promises.{Receives, Removes, LooksUp, removalNumber, lookNumber};
+ghost use Rattle.calls.specs.Calls.{isFull, seen};
+ghost use Rattle.platform.specs.Promises.{DecidesBy, Receives, Removes, LooksUp, removalNumber, lookNumber};
 use bodies::MicAnswer;
 use calls::Checked;
 use peers::Found;
@@ -104,6 +105,53 @@ pub fn empty() -> Table
     peers::empty()
 }
 
+// What a receive decides, for whoever keeps the records: the change of this peer's record, with `peer` for what it becomes, and the latest reading.
+pub struct Decision {
+    pub answer: Answer,
+    pub length: usize,
+    pub latest: Tu,
+    pub change: Leaves,
+    pub peer: Peer,
+}
+
+// A receive but for the table: `found` and `peer` are what a search told of the address. The reply is as of `receive`.
+pub fn decide(
+    latest: Tu,
+    found: Found,
+    peer: Peer,
+    brought: Brought,
+    file: &[u8],
+    key: &[u8],
+    mic: &[u8],
+    body: &[u8],
+    reply: &mut [u8],
+) -> Decision
+    ensures { λ r. ⌜ DecidesBy (callOf brought (now (file .entry)) (now (key .entry)) (now (mic .entry)) (now (body .entry)) (length (now (reply .entry)))) latest (isFull found) (seen found peer) (now (reply .entry)) (now (reply .exit)) r ⌝ }
+{
+    let reading = brought.reading;
+    let checked = calls::check_call(latest, brought, file, reply.len());
+    if let Checked::Failed(answer) = checked {
+        return Decision {
+            answer: answer,
+            length: 0,
+            latest: latest,
+            change: Leaves::Same,
+            peer: peers::vacant(),
+        };
+    }
+    let verdict = calls::on_body(found, peer, brought, file, key, mic, body, reply);
+    let answer = verdict.answer;
+    let leaves = verdict.leaves;
+    let next = verdict.peer;
+    Decision {
+        answer: answer,
+        length: verdict.length,
+        latest: reading,
+        change: calls::change_of(found, peer, leaves),
+        peer: next,
+    }
+}
+
 fn given_back(table: Table, answer: Answer, length: usize) -> Received
     ensures { λ r. ⌜ r ≡ record { table = table; answer = answer; length = length } ⌝ }
 {
@@ -126,11 +174,6 @@ pub fn receive(
 ) -> Received
     ensures { λ r. ⌜ Receives t (callOf brought (now (file .entry)) (now (key .entry)) (now (mic .entry)) (now (body .entry)) (length (now (reply .entry)))) (now (reply .entry)) (now (reply .exit)) r ⌝ }
 {
-    let latest = t.latest;
-    let checked = calls::check_call(latest, brought, file, reply.len());
-    if let Checked::Failed(answer) = checked {
-        return given_back(t, answer, 0);
-    }
     let address = brought.address;
     let reading = brought.reading;
     let found = peers::find(t, address, reading);
@@ -138,13 +181,14 @@ pub fn receive(
     if let Found::At(i) = found {
         peer = t.peers[i];
     }
-    let verdict = calls::on_body(found, peer, brought, file, key, mic, body, reply);
-    let answer = verdict.answer;
-    let length = verdict.length;
-    let leaves = verdict.leaves;
-    let next = verdict.peer;
-    let change = calls::change_of(found, peer, leaves);
-    t.latest = reading;
+    let latest = t.latest;
+    let decision = decide(latest, found, peer, brought, file, key, mic, body, reply);
+    let answer = decision.answer;
+    let length = decision.length;
+    let change = decision.change;
+    let next = decision.peer;
+    let dated = decision.latest;
+    t.latest = dated;
     match change {
         Leaves::Same => given_back(t, answer, length),
         Leaves::WaitingGoes => given_back(peers::drop(t, address), answer, length),

@@ -26,7 +26,7 @@ phase-back : (p : Phase) → phaseOf (phaseNumber p) (until p .0) ≡ p
 phase-back (Waiting deadline) = refl
 phase-back (Installed end) = refl
 
-peer-back : (p : Peer) → peerOf (recordOf p) ≡ p
+pub peer-back : (p : Peer) → peerOf (recordOf p) ≡ p
 unfolding peerOf recordOf
 peer-back p = rw (yes-back (p .cached), phase-back (p .phase))
 

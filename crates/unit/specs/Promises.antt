@@ -12,14 +12,12 @@ use Rattle.rules.specs.declared.Brought.{Brought}
 use Rattle.rules.specs.declared.Settings.{Settings}
 use Rattle.rules.specs.OnePeer.{numberOf, statusOf}
 use Rattle.rules.specs.Told.{callOf}
-use Rattle.platform.specs.declared.Received.{Received}
 use Rattle.platform.specs.declared.Removed.{Removed}
 use Rattle.platform.specs.declared.LookedUp.{LookedUp}
 use Rattle.platform.specs.Promises.{removalNumber, lookNumber, Receives, Removes, LooksUp}
 use Rattle.unit.specs.declared.HostSettings.{HostSettings}
 use Rattle.unit.specs.declared.HostCall.{HostCall}
 use Rattle.unit.specs.declared.ReceiveResult.{ReceiveResult}
-use Rattle.unit.specs.declared.Receiving.{Receiving}
 use Rattle.unit.specs.declared.Removing.{Removing}
 use Rattle.unit.specs.declared.LookUpResult.{LookUpResult}
 use Rattle.unit.specs.declared.KeyPlace.{KeyPlace}
@@ -51,8 +49,8 @@ orZero (some n) = n
 abbrev pub statusNumber : Answer → ℕ
 statusNumber answer = orZero (statusOf answer)
 
-abbrev pub receivingOf : Received → Receiving
-receivingOf r = record { state = stateOf (r .table); result = record { answer = numberOf (r .answer); status = statusNumber (r .answer); length = r .length } }
+abbrev pub receiveResultOf : Answer → ℕ → ReceiveResult
+receiveResultOf answer length = record { answer = numberOf answer; status = statusNumber answer; length = length }
 
 abbrev pub removingOf : Removed → Removing
 removingOf r = record { state = stateOf (r .table); answer = removalNumber (r .answer) }
@@ -66,10 +64,13 @@ pub record Told {A B : Type 0} (Promised : A → Type 0) (tell : A → B) (r : B
   pub promised : Promised outcome
   pub told : r ≡ tell outcome
 
--- A receive leaves a state and tells a result; a removal likewise.
-abbrev pub ReceivesIn : State → HostCall → (cache key mic body before : List ℕ) → State → ReceiveResult → (after : List ℕ) → Type 0
-ReceivesIn s call cache key mic body before s' result after =
-    Told (Receives (tableOf s) (callOf (broughtOf call) cache key mic body (length before)) before after) receivingOf (record { state = s'; result = result })
+-- A receive leaves a state and tells a result: the two states are tables as the platform promises, and the result is its answer and length in numbers.
+pub record ReceivesIn (s : State) (call : HostCall) (cache key mic body before : List ℕ) (s' : State) (result : ReceiveResult) (after : List ℕ) : Type 0 where
+  pub answer : Answer
+  pub length' : ℕ
+  pub received : Receives (tableOf s) (callOf (broughtOf call) cache key mic body (length before)) before after
+      (record { table = tableOf s'; answer = answer; length = length' })
+  pub told : result ≡ receiveResultOf answer length'
 
 abbrev pub LooksUpIn : State → (address : List ℕ) (reading : ℕ) → LookUpResult → Type 0
 LooksUpIn s address reading r = Told (LooksUp (tableOf s) address (record { 0 = reading })) lookUpResultOf r

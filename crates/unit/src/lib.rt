@@ -4,15 +4,17 @@ ghost use lib.ListN.{length};
 ghost use Rattle.bodies.specs.Bodies.{numberOf, zeroAnswer, zeroed, setAnswer, setOctets};
 ghost use Rattle.peers.specs.Promises.{Nobody};
 ghost use Rattle.unit.specs.Crossing.{tableOf};
-ghost use Rattle.unit.specs.Promises.{settingsOf, broughtOf, statusNumber, receivingOf, removingOf, lookUpResultOf, ReceivesIn, LooksUpIn, RemovesIn, KeyAt};
+ghost use Rattle.unit.specs.Promises.{settingsOf, broughtOf, statusNumber, receiveResultOf, removingOf, lookUpResultOf, ReceivesIn, LooksUpIn, RemovesIn, KeyAt};
 
+mod records;
 mod state;
 
+use peers::Found;
 use platform::LookedUp;
-use platform::Received;
 use platform::Removed;
 use rules::Answer;
 use rules::Brought;
+use rules::Leaves;
 use rules::Settings;
 use state::Record;
 use state::State;
@@ -101,19 +103,13 @@ fn status_number(answer: Answer) -> u16
     }
 }
 
-fn receive_told(r: Received) -> Receiving
-    ensures { λ told. ⌜ told ≡ receivingOf r ⌝ }
+fn receive_result(answer: Answer, length: usize) -> ReceiveResult
+    ensures { λ r. ⌜ r ≡ receiveResultOf answer length ⌝ }
 {
-    let answer = r.answer;
-    let table = r.table;
-    let result = ReceiveResult {
+    ReceiveResult {
         answer: platform::answer_number(answer),
         status: status_number(answer),
-        length: r.length,
-    };
-    Receiving {
-        state: state::state_of(table),
-        result: result,
+        length: length,
     }
 }
 
@@ -139,6 +135,15 @@ fn look_up_result(r: LookedUp) -> LookUpResult
     }
 }
 
+fn given_back(state: State, result: ReceiveResult) -> Receiving
+    ensures { λ r. ⌜ r ≡ record { state = state; result = result } ⌝ }
+{
+    Receiving {
+        state: state,
+        result: result,
+    }
+}
+
 #[no_mangle]
 pub extern "C" fn galebeacon_empty() -> State
     ensures { λ r. ⌜ Nobody (tableOf r) ⌝ }
@@ -148,7 +153,7 @@ pub extern "C" fn galebeacon_empty() -> State
 
 // Each operation on the state is here by value; the exported one beside it lends the state.
 fn receive_in(
-    state: State,
+    mut state: State,
     call: HostCall,
     cache: &[u8],
     key: &[u8],
@@ -158,10 +163,28 @@ fn receive_in(
 ) -> Receiving
     ensures { λ r. ⌜ ReceivesIn state call (now (cache .entry)) (now (key .entry)) (now (mic .entry)) (now (body .entry)) (now (reply .entry)) (r .state) (r .result) (now (reply .exit)) ⌝ }
 {
-    let t = state::table_of(state);
     let brought = brought_of(call);
-    let received = platform::receive(t, brought, cache, key, mic, body, reply);
-    receive_told(received)
+    let address = brought.address;
+    let reading = brought.reading;
+    let found = records::find(state, address, reading);
+    let mut peer = peers::vacant();
+    if let Found::At(i) = found {
+        let r = state.records[i];
+        peer = state::peer_of(r);
+    }
+    let latest = Tu(state.latest_tu);
+    let decision = platform::decide(latest, found, peer, brought, cache, key, mic, body, reply);
+    let answer = decision.answer;
+    let change = decision.change;
+    let next = decision.peer;
+    let dated = decision.latest;
+    let result = receive_result(answer, decision.length);
+    state.latest_tu = dated.0;
+    match change {
+        Leaves::Same => given_back(state, result),
+        Leaves::WaitingGoes => given_back(records::drop(state, address), result),
+        Leaves::Becomes => given_back(records::put(state, next, reading), result),
+    }
 }
 
 #[no_mangle]

@@ -60,7 +60,7 @@ fn phase_number(phase: Phase) -> u8
     }
 }
 
-fn peer_of(r: Record) -> Peer
+pub fn peer_of(r: Record) -> Peer
     ensures { λ p. ⌜ p ≡ peerOf r ⌝ }
 {
     let address = r.address;

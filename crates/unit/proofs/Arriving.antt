@@ -1,0 +1,59 @@
+-- A receive in a host's records, by what was decided.
+use Prim.Native.Nat.{ℕ}
+use mathlib.Core.Path.{_≡_, sym, subst}
+use mathlib.Core.List.{List}
+use lib.ListN.{length, getD}
+use Rattle.units.specs.declared.Tu.{Tu}
+use Rattle.peers.specs.declared.Found.{Found}
+use Rattle.peers.specs.declared.Found.the-variants.{At}
+use Rattle.peers.specs.declared.Peer.{Peer}
+use Rattle.peers.specs.Promises.{FoundAt, Puts, Drops}
+use Rattle.rules.specs.declared.Answer.{Answer}
+use Rattle.rules.specs.declared.Brought.{Brought}
+use Rattle.rules.specs.declared.Leaves.{Leaves}
+use Rattle.rules.specs.OnePeer.{Call}
+use Rattle.rules.specs.Told.{callOf}
+use Rattle.calls.specs.Calls.{seen, isFull}
+use Rattle.platform.specs.declared.Decision.{Decision}
+use Rattle.platform.specs.Promises.{DecidesBy, Receives}
+use Rattle.platform.proofs.Finding.{Sees, sees-at}
+use Rattle.platform.proofs.Receiving.{received-same, received-gone, received-becomes}
+use Rattle.unit.specs.declared.HostCall.{HostCall}
+use Rattle.unit.specs.declared.ReceiveResult.{ReceiveResult}
+use Rattle.unit.specs.declared.state.State.{State}
+use Rattle.unit.specs.Crossing.{peerOf, tableOf}
+use Rattle.unit.specs.Promises.{broughtOf, receiveResultOf, ReceivesIn}
+use Rattle.unit.proofs.Kept.{noRecord, peer-at}
+
+-- the peer that a search found is the record at that place
+pub sees-record : (s : State) (a : List ℕ) (n : Tu) {i : ℕ} {p : Peer} → FoundAt (tableOf s) a n i → p ≡ peerOf (getD (s .records) i noRecord) → Sees (tableOf s) a n (At i) p
+sees-record s a n {i} f e = subst (Sees (tableOf s) a n (At i)) (peer-at s i e) (sees-at (tableOf s) a n f)
+
+-- the same records at another latest reading
+abbrev pub datedIn : State → Tu → State
+datedIn s l = record { records = s .records; «latest_tu» = l .0 }
+
+module _ (s : State) (host : HostCall) {brought : Brought} (b : brought ≡ broughtOf host) (cache key mic body before : List ℕ) where
+  abbrev call : Call
+  call = callOf brought cache key mic body (length before)
+
+  module _ (found : Found) (peer : Peer) (w : Sees (tableOf s) (brought .address) (brought .reading) found peer)
+      {after : List ℕ} {d : Decision} (g : DecidesBy call (record { 0 = s .«latest_tu» }) (isFull found) (seen found peer) before after d)
+      {result : ReceiveResult} (told : result ≡ receiveResultOf (d .answer) (d .length)) where
+    tells : {s' : State} → Receives (tableOf s) call before after (record { table = tableOf s'; answer = d .answer; length = d .length })
+        → ReceivesIn s host cache key mic body before s' result after
+    tells r = record { answer = d .answer; length' = d .length; received = rw b at r; told = told }
+
+    pub in-same : d .change ≡ Leaves.Same → ReceivesIn s host cache key mic body before (datedIn s (d .latest)) result after
+    unfolding tableOf
+    in-same c = tells (received-same (tableOf s) call found peer w g c)
+
+    pub in-gone : {r : State} → d .change ≡ Leaves.WaitingGoes → Drops (tableOf (datedIn s (d .latest))) (brought .address) (tableOf r)
+        → ReceivesIn s host cache key mic body before r result after
+    unfolding tableOf
+    in-gone c u = tells (received-gone (tableOf s) call found peer w g c u)
+
+    pub in-becomes : {r : State} → d .change ≡ Leaves.Becomes → Puts (tableOf (datedIn s (d .latest))) (d .peer) (brought .reading) (tableOf r)
+        → ReceivesIn s host cache key mic body before r result after
+    unfolding tableOf
+    in-becomes c u = tells (received-becomes (tableOf s) call found peer w g c u)

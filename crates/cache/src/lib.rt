@@ -60,16 +60,16 @@ fn end_at(file: &[u8], value: usize) -> Tu
 }
 
 // Whether the record whose value starts at a place is of that PMKID and the same AKM, and its end later than the reading.
-// Two PMKIDs mostly differ at once, so they are compared before the end is read.
+// Two PMKIDs mostly differ at once, so they are compared first.
 fn matches(file: &[u8], value: usize, pmkid: &[u8], akm: u8, reading: Tu) -> bool
     requires { ⌜ value + 25 ≤ length (now file) ⌝ }
     ensures { λ r. ⌜ r ≡ matches (now (pmkid .entry)) akm reading (cachedAt (now (file .entry)) value) ⌝ }
 {
     let akm_at = value + PMKID;
-    if file[akm_at] != akm {
+    if !octets::same(&file[value..akm_at], pmkid) {
         return false;
     }
-    if !octets::same(&file[value..akm_at], pmkid) {
+    if file[akm_at] != akm {
         return false;
     }
     let end = end_at(file, value);

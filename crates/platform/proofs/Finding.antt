@@ -1,7 +1,6 @@
 -- What a search's answer says, once it is taken apart.
-use mathlib.Core.Path.{_≡_, subst, _∙_}
+use mathlib.Core.Path.{_≡_, subst}
 use mathlib.Core.List.{List}
-use mathlib.Core.Option.{none}
 use Prim.Native.Nat.{ℕ}
 use lib.ListN.{getD}
 use Rattle.units.specs.declared.Tu.{Tu}
@@ -13,7 +12,7 @@ use Rattle.peers.specs.Promises.{Finds, FoundAt}
 use Rattle.peers.specs.View.{shows, full, noPeer}
 use Rattle.peers.proofs.Laws.{full-shown}
 use Rattle.calls.specs.Calls.{seen, isFull}
-use Rattle.calls.proofs.Seen.{Nowhere, nowhere, seen-none}
+use Rattle.calls.proofs.Seen.{Nowhere, nowhere}
 
 -- what was seen of an address is what the table shows of it
 pub record Sees (t : Table) (a : List ℕ) (n : Tu) (found : Found) (peer : Peer) : Type 0 where
@@ -30,6 +29,3 @@ module _ (t : Table) (a : List ℕ) (n : Tu) where
   pub sees-none : (found : Found) (peer : Peer) → Finds t a n found → Nowhere found → Sees t a n found peer
   sees-none found peer f h =
       nowhere (λ g. Finds t a n g → Sees t a n g peer) (λ m. record { shown = m .nobody; filled = m .filled }) (λ m. record { shown = m .nobody; filled = m .filled }) found h f
-
-  pub found-none : (found : Found) → Finds t a n found → Nowhere found → shows t n a ≡ none
-  found-none found f h = sees-none found noPeer f h .shown ∙ seen-none found noPeer h

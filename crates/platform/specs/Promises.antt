@@ -82,6 +82,10 @@ removalNumber Removal.GroupAddress = 4
 removalNumber Removal.NoRecord = 17
 removalNumber Removal.Removed = 16
 
+-- what a removal answers, by the latest reading and this peer's record or none
+pub record RemovesBy (latest : Tu) (address : List ℕ) (n : Tu) (own : Option Peer) (r : Removal) : Type 0 where
+  pub number : removalNumber r ≡ removeOf latest n address own
+
 -- what a removal leaves of this address's record
 abbrev pub leftByRemoval : Removal → Left
 leftByRemoval Removal.ClockOut = same
@@ -100,12 +104,21 @@ lookNumber LookUp.GroupAddress = 4
 lookNumber LookUp.NoRecord = 17
 lookNumber LookUp.Shown = 18
 
--- the record beside 18 is the one that is shown; beside another answer there is none
+-- the record beside 18 is this peer's; beside another answer there is none
+abbrev pub IsSeen : Option Peer → Peer → LookUp → Type 0
+IsSeen own p LookUp.ClockOut = p ≡ vacantPeer
+IsSeen own p LookUp.GroupAddress = p ≡ vacantPeer
+IsSeen own p LookUp.NoRecord = p ≡ vacantPeer
+IsSeen own p LookUp.Shown = own ≡ some p
+
+-- What a look-up tells, by the latest reading and this peer's record or none.
+pub record LooksBy (latest : Tu) (address : List ℕ) (n : Tu) (own : Option Peer) (r : LookedUp) : Type 0 where
+  pub number : lookNumber (r .answer) ≡ lookUpOf latest n address own
+  pub shown : IsSeen own (r .peer) (r .answer)
+
+-- the record is the one that the table shows
 abbrev pub IsShown : Table → List ℕ → Tu → Peer → LookUp → Type 0
-IsShown t address n p LookUp.ClockOut = p ≡ vacantPeer
-IsShown t address n p LookUp.GroupAddress = p ≡ vacantPeer
-IsShown t address n p LookUp.NoRecord = p ≡ vacantPeer
-IsShown t address n p LookUp.Shown = shows t n address ≡ some p
+IsShown t address n p answer = IsSeen (shows t n address) p answer
 
 pub record LooksUp (t : Table) (address : List ℕ) (n : Tu) (r : LookedUp) : Type 0 where
   pub number : lookNumber (r .answer) ≡ lookUpOf (t .latest) n address (shows t n address)

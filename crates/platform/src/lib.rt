@@ -8,7 +8,7 @@ ghost use Rattle.peers.specs.View.{vacantPeer};
 ghost use Rattle.rules.specs.OnePeer.{numberOf};
 ghost use Rattle.rules.specs.Told.{callOf};
 ghost use Rattle.calls.specs.Calls.{isFull, seen};
-ghost use Rattle.platform.specs.Promises.{DecidesBy, Receives, Removes, LooksUp, removalNumber, lookNumber};
+ghost use Rattle.platform.specs.Promises.{DecidesBy, Receives, RemovesBy, Removes, LooksBy, LooksUp, removalNumber, lookNumber};
 use bodies::MicAnswer;
 use calls::Checked;
 use peers::Found;
@@ -196,35 +196,45 @@ pub fn receive(
     }
 }
 
+// A removal but for the table, as `decide` is a receive: its answer.
+pub fn decide_removal(latest: Tu, found: Found, address: [u8; 6], reading: Tu) -> Removal
+    ensures { λ r. ⌜ RemovesBy latest address reading (seen found vacantPeer) r ⌝ }
+{
+    if !calls::clock_fits(latest, reading) {
+        return Removal::ClockOut;
+    }
+    if calls::is_group_address(address) {
+        return Removal::GroupAddress;
+    }
+    let Found::At(_) = found else {
+        return Removal::NoRecord;
+    };
+    Removal::Removed
+}
+
+fn taken_out(table: Table, answer: Removal) -> Removed
+    ensures { λ r. ⌜ r ≡ record { table = table; answer = answer } ⌝ }
+{
+    Removed {
+        table: table,
+        answer: answer,
+    }
+}
+
 // A peer's record is removed, waiting or installed.
 pub fn remove(t: Table, address: [u8; 6], reading: Tu) -> Removed
     ensures { λ r. ⌜ Removes t address reading r ⌝ }
 {
     let latest = t.latest;
-    if !calls::clock_fits(latest, reading) {
-        return Removed {
-            table: t,
-            answer: Removal::ClockOut,
-        };
-    }
-    if calls::is_group_address(address) {
-        return Removed {
-            table: t,
-            answer: Removal::GroupAddress,
-        };
-    }
+    let found = peers::find(t, address, reading);
+    let answer = decide_removal(latest, found, address, reading);
     let mut u = t;
     u.latest = reading;
-    let found = peers::find(t, address, reading);
-    let Found::At(_) = found else {
-        return Removed {
-            table: u,
-            answer: Removal::NoRecord,
-        };
-    };
-    Removed {
-        table: peers::drop(u, address),
-        answer: Removal::Removed,
+    match answer {
+        Removal::ClockOut => taken_out(t, answer),
+        Removal::GroupAddress => taken_out(t, answer),
+        Removal::NoRecord => taken_out(u, answer),
+        Removal::Removed => taken_out(peers::drop(u, address), answer),
     }
 }
 
@@ -237,26 +247,42 @@ fn nothing_shown(answer: LookUp) -> LookedUp
     }
 }
 
-// The live record of an address. The latest reading stays as it was.
-pub fn look_up(t: Table, address: [u8; 6], reading: Tu) -> LookedUp
-    ensures { λ r. ⌜ LooksUp t address reading r ⌝ }
+// A look-up but for the table.
+pub fn decide_look_up(
+    latest: Tu,
+    found: Found,
+    peer: Peer,
+    address: [u8; 6],
+    reading: Tu,
+) -> LookedUp
+    ensures { λ r. ⌜ LooksBy latest address reading (seen found peer) r ⌝ }
 {
-    let latest = t.latest;
     if !calls::clock_fits(latest, reading) {
         return nothing_shown(LookUp::ClockOut);
     }
     if calls::is_group_address(address) {
         return nothing_shown(LookUp::GroupAddress);
     }
-    let found = peers::find(t, address, reading);
-    let Found::At(i) = found else {
+    let Found::At(_) = found else {
         return nothing_shown(LookUp::NoRecord);
     };
-    let peer = t.peers[i];
     LookedUp {
         answer: LookUp::Shown,
         peer: peer,
     }
+}
+
+// The live record of an address. The latest reading stays as it was.
+pub fn look_up(t: Table, address: [u8; 6], reading: Tu) -> LookedUp
+    ensures { λ r. ⌜ LooksUp t address reading r ⌝ }
+{
+    let latest = t.latest;
+    let found = peers::find(t, address, reading);
+    let mut shown = peers::vacant();
+    if let Found::At(i) = found {
+        shown = t.peers[i];
+    }
+    decide_look_up(latest, found, shown, address, reading)
 }
 
 // The operations on bodies, as `bodies` has them.

@@ -10,10 +10,6 @@ use Rattle.peers.specs.View.{until}
 use Rattle.unit.specs.declared.state.State.{State}
 use Rattle.unit.specs.Crossing.{isYes, yesNumber, phaseOf, phaseNumber, peerOf, recordOf, tableOf, stateOf, ComesBack}
 
-pub is-table : (t : Table) (s : State) → t .peers ≡ map peerOf (s .records) → t .latest ≡ record { 0 = s .«latest_tu» } → t ≡ tableOf s
-unfolding tableOf
-is-table t s peers latest = rw (← peers, ← latest)
-
 pub is-state : (s : State) (t : Table) → s .records ≡ map recordOf (t .peers) → s .«latest_tu» ≡ t .latest .0 → s ≡ stateOf t
 unfolding stateOf
 is-state s t records latest = rw (← records, ← latest)

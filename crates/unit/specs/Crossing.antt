@@ -1,7 +1,7 @@
 -- How tables cross to a host: every state there can be is a table, and a table is told as a state.
 use Prim.Native.Nat.{ℕ}
 use mathlib.Core.Path.{_≡_}
-use mathlib.Core.Bool.{Bool, true, false, not}
+use mathlib.Core.Bool.{Bool, not}
 use mathlib.Core.List.{map}
 use lib.Dec.{eqb}
 use Rattle.octets.specs.Choice.{if_then_else_}

@@ -12,18 +12,17 @@ use Rattle.rules.specs.declared.Brought.{Brought}
 use Rattle.rules.specs.declared.Settings.{Settings}
 use Rattle.rules.specs.OnePeer.{numberOf, statusOf}
 use Rattle.rules.specs.Told.{callOf}
-use Rattle.platform.specs.declared.Removed.{Removed}
+use Rattle.platform.specs.declared.Removal.{Removal}
 use Rattle.platform.specs.declared.LookedUp.{LookedUp}
 use Rattle.platform.specs.Promises.{removalNumber, lookNumber, Receives, Removes, LooksUp}
 use Rattle.unit.specs.declared.HostSettings.{HostSettings}
 use Rattle.unit.specs.declared.HostCall.{HostCall}
 use Rattle.unit.specs.declared.ReceiveResult.{ReceiveResult}
-use Rattle.unit.specs.declared.Removing.{Removing}
 use Rattle.unit.specs.declared.LookUpResult.{LookUpResult}
 use Rattle.unit.specs.declared.KeyPlace.{KeyPlace}
 use Rattle.unit.specs.declared.state.Record.{Record}
 use Rattle.unit.specs.declared.state.State.{State}
-use Rattle.unit.specs.Crossing.{isYes, recordOf, tableOf, stateOf}
+use Rattle.unit.specs.Crossing.{isYes, recordOf, tableOf}
 
 abbrev pub settingsOf : HostSettings → Settings
 settingsOf s = record {
@@ -52,9 +51,6 @@ statusNumber answer = orZero (statusOf answer)
 abbrev pub receiveResultOf : Answer → ℕ → ReceiveResult
 receiveResultOf answer length = record { answer = numberOf answer; status = statusNumber answer; length = length }
 
-abbrev pub removingOf : Removed → Removing
-removingOf r = record { state = stateOf (r .table); answer = removalNumber (r .answer) }
-
 abbrev pub lookUpResultOf : LookedUp → LookUpResult
 lookUpResultOf r = record { answer = lookNumber (r .answer); shown = recordOf (r .peer) }
 
@@ -75,8 +71,11 @@ pub record ReceivesIn (s : State) (call : HostCall) (cache key mic body before :
 abbrev pub LooksUpIn : State → (address : List ℕ) (reading : ℕ) → LookUpResult → Type 0
 LooksUpIn s address reading r = Told (LooksUp (tableOf s) address (record { 0 = reading })) lookUpResultOf r
 
-abbrev pub RemovesIn : State → (address : List ℕ) (reading : ℕ) → State → (answer : ℕ) → Type 0
-RemovesIn s address reading s' answer = Told (Removes (tableOf s) address (record { 0 = reading })) removingOf (record { state = s'; answer = answer })
+-- A removal leaves a state and tells an answer, likewise.
+pub record RemovesIn (s : State) (address : List ℕ) (reading : ℕ) (s' : State) (answer : ℕ) : Type 0 where
+  pub removal : Removal
+  pub removed : Removes (tableOf s) address (record { 0 = reading }) (record { table = tableOf s'; answer = removal })
+  pub told : answer ≡ removalNumber removal
 
 -- The key's place in the body: where it begins and how many octets it has, and 0 and 0 where no key is shown.
 pub record KeyAt (body : List ℕ) (r : KeyPlace) : Type 0 where

@@ -3,15 +3,16 @@ ghost use mathlib.Core.Path.{_≡_};
 ghost use lib.ListN.{length};
 ghost use Rattle.bodies.specs.Bodies.{numberOf, zeroAnswer, zeroed, setAnswer, setOctets};
 ghost use Rattle.peers.specs.Promises.{Nobody};
+ghost use Rattle.platform.specs.Promises.{removalNumber};
 ghost use Rattle.unit.specs.Crossing.{tableOf};
-ghost use Rattle.unit.specs.Promises.{settingsOf, broughtOf, statusNumber, receiveResultOf, removingOf, lookUpResultOf, ReceivesIn, LooksUpIn, RemovesIn, KeyAt};
+ghost use Rattle.unit.specs.Promises.{settingsOf, broughtOf, statusNumber, receiveResultOf, lookUpResultOf, ReceivesIn, LooksUpIn, RemovesIn, KeyAt};
 
 mod records;
 mod state;
 
 use peers::Found;
 use platform::LookedUp;
-use platform::Removed;
+use platform::Removal;
 use rules::Answer;
 use rules::Brought;
 use rules::Leaves;
@@ -113,13 +114,11 @@ fn receive_result(answer: Answer, length: usize) -> ReceiveResult
     }
 }
 
-fn remove_told(r: Removed) -> Removing
-    ensures { λ told. ⌜ told ≡ removingOf r ⌝ }
+fn taken_out(state: State, answer: Removal) -> Removing
+    ensures { λ r. ⌜ r ≡ record { state = state; answer = removalNumber answer } ⌝ }
 {
-    let answer = r.answer;
-    let table = r.table;
     Removing {
-        state: state::state_of(table),
+        state: state,
         answer: platform::removal_number(answer),
     }
 }
@@ -208,7 +207,15 @@ fn look_up_in(state: State, address: &[u8; 6], reading_tu: u64) -> LookUpResult
     ensures { λ r. ⌜ LooksUpIn state (now (address .entry)) «reading_tu» r ⌝ }
 {
     let a = *address;
-    look_up_result(platform::look_up(state::table_of(state), a, Tu(reading_tu)))
+    let reading = Tu(reading_tu);
+    let found = records::find(state, a, reading);
+    let mut peer = peers::vacant();
+    if let Found::At(i) = found {
+        let r = state.records[i];
+        peer = state::peer_of(r);
+    }
+    let latest = Tu(state.latest_tu);
+    look_up_result(platform::decide_look_up(latest, found, peer, a, reading))
 }
 
 #[no_mangle]
@@ -226,7 +233,18 @@ fn remove_in(state: State, address: &[u8; 6], reading_tu: u64) -> Removing
     ensures { λ r. ⌜ RemovesIn state (now (address .entry)) «reading_tu» (r .state) (r .answer) ⌝ }
 {
     let a = *address;
-    remove_told(platform::remove(state::table_of(state), a, Tu(reading_tu)))
+    let reading = Tu(reading_tu);
+    let found = records::find(state, a, reading);
+    let latest = Tu(state.latest_tu);
+    let answer = platform::decide_removal(latest, found, a, reading);
+    let mut dated = state;
+    dated.latest_tu = reading_tu;
+    match answer {
+        Removal::ClockOut => taken_out(state, answer),
+        Removal::GroupAddress => taken_out(state, answer),
+        Removal::NoRecord => taken_out(dated, answer),
+        Removal::Removed => taken_out(records::drop(dated, a), answer),
+    }
 }
 
 #[no_mangle]

@@ -35,11 +35,11 @@ pub fn put(mut s: State, p: Peer, reading: Tu) -> State
     let address = p.address;
     let blank = state::record_of(peers::vacant());
     let mut next = state::record_of(p);
-    for i in 0..16 {
-        let r = s.records[i];
+    for place in 0..16 {
+        let r = s.records[place];
         let q = state::peer_of(r);
         if !peers::is_other(q, address, reading) {
-            s.records[i] = next;
+            s.records[place] = next;
             next = blank;
         }
     }
@@ -50,11 +50,11 @@ pub fn drop(mut s: State, address: [u8; 6]) -> State
     ensures { λ r. ⌜ Drops (tableOf s) address (tableOf r) ⌝ }
 {
     let blank = state::record_of(peers::vacant());
-    for i in 0..16 {
-        let r = s.records[i];
+    for place in 0..16 {
+        let r = s.records[place];
         let q = state::peer_of(r);
         if peers::is_of(q, address) {
-            s.records[i] = blank;
+            s.records[place] = blank;
         }
     }
     s

@@ -1,6 +1,6 @@
 // The state that a host keeps: numbers of which any octets are a legal value, and the table that they are.
 ghost use mathlib.Core.Path.{_≡_};
-ghost use Rattle.unit.specs.Crossing.{isYes, yesNumber, phaseOf, phaseNumber, peerOf, recordOf, tableOf, stateOf};
+ghost use Rattle.unit.specs.Crossing.{isYes, yesNumber, phaseOf, phaseNumber, peerOf, recordOf, stateOf};
 use peers::Peer;
 use peers::Phase;
 use peers::Table;
@@ -94,21 +94,6 @@ pub fn record_of(p: Peer) -> Record
         lifetime_seconds: lifetime.0,
         until_tu: until.0,
     }
-}
-
-pub fn table_of(s: State) -> Table
-    ensures { λ r. ⌜ r ≡ tableOf s ⌝ }
-{
-    let v = peers::vacant();
-    let mut t = Table {
-        peers: [v; 16],
-        latest: Tu(s.latest_tu),
-    };
-    for i in 0..16 {
-        let r = s.records[i];
-        t.peers[i] = peer_of(r);
-    }
-    t
 }
 
 pub fn state_of(t: Table) -> State

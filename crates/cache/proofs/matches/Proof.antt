@@ -8,14 +8,6 @@ use Rattle.cache.proofs.matches.Tie as tie
 add-akm-at : tie.Need-add-akm-at
 add-akm-at c = search needs
 
-shared-slice-read-if1 : tie.Need-shared-slice-read-if1
-shared-slice-read-if1 c = search needs
-
-returns : tie.Need-returns
-returns c =
-    let a = c .before .before .before .before .args in
-    other-akm (a .file .now) (a .value) (a .pmkid .now) (a .akm) (a .reading) (c .if1 .taken)
-
 sub-same : tie.Need-sub-same
 sub-same c = search needs
 
@@ -28,10 +20,18 @@ part-same-end c = search needs
 same-requires : tie.Need-same-requires
 same-requires c κs = search needs
 
+returns : tie.Need-returns
+returns c =
+    let a = c .before .before .before .before .before .args in
+    other-pmkid (a .file .now) (a .value) (a .pmkid .now) (a .akm) (a .reading) (sym (c .before .same .ensures) ∙ not-true _ (c .if1 .taken))
+
+shared-slice-read-if2 : tie.Need-shared-slice-read-if2
+shared-slice-read-if2 c = search needs
+
 returns-2 : tie.Need-returns-2
 returns-2 c =
     let a = c .before .before .before .before .before .before .before .args in
-    other-pmkid (a .file .now) (a .value) (a .pmkid .now) (a .akm) (a .reading) (sym (c .before .same .ensures) ∙ not-true _ (c .if2 .taken))
+    other-akm (a .file .now) (a .value) (a .pmkid .now) (a .akm) (a .reading) (c .if2 .taken)
 
 end-at-requires : tie.Need-end-at-requires
 end-at-requires c κs = search needs
@@ -39,22 +39,22 @@ end-at-requires c κs = search needs
 returns-3 : tie.Need-returns-3
 returns-3 c =
     let q = c .before .before in
-    let p = q .before .before in
-    let a = p .before .before .before .before .before .before .args in
+    let p = q .before .before .before in
+    let a = p .before .before .before .before .before .args in
     by-end (a .file .now) (a .value) (a .pmkid .now) (a .akm) (a .reading)
-    (p .before .before .if1 .left) (sym (p .same .ensures) ∙ not-false _ (q .before .if2 .left)) (q .end-at .result .0) (q .end-at .ensures)
+    (q .before .if2 .left) (sym (p .before .same .ensures) ∙ not-false _ (p .if1 .left)) (q .end-at .result .0) (q .end-at .ensures)
 
 pub matches-spec : {M : Type 1} → statement M
 matches-spec =
     tie.close
     (tie.spec
     add-akm-at
-    shared-slice-read-if1
-    returns
     sub-same
     part-same-start
     part-same-end
     same-requires
+    returns
+    shared-slice-read-if2
     returns-2
     end-at-requires
     returns-3)

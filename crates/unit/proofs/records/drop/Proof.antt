@@ -11,10 +11,10 @@ use Rattle.unit.proofs.records.drop.Statement.{statement}
 use Rattle.unit.proofs.records.drop.Tie as tie
 
 abbrev Inv-loop : tie.InvT-loop
-Inv-loop address s₀ blank i₀ s i = Passing (elsewhere address) vacantPeer s₀ blank s i
+Inv-loop address s₀ blank place₀ s place = Passing (elsewhere address) vacantPeer s₀ blank s place
 
 abbrev μ-loop : tie.MeasureT-loop
-μ-loop address s₀ blank i₀ s i = 16 - i
+μ-loop address s₀ blank place₀ s place = 16 - place
 
 vacant-requires : tie.Need-vacant-requires Inv-loop μ-loop
 vacant-requires c κs = search needs
@@ -43,8 +43,8 @@ mul-blank c = search needs
 element-set-from-blank : tie.Need-element-set-from-blank Inv-loop μ-loop
 element-set-from-blank c = search needs
 
-add-i : tie.Need-add-i Inv-loop μ-loop
-add-i c = search needs
+add-place : tie.Need-add-place Inv-loop μ-loop
+add-place c = search needs
 
 loop-less : tie.Need-loop-less Inv-loop μ-loop
 loop-less c = search needs
@@ -77,7 +77,7 @@ drop-spec =
     is-of-requires
     mul-blank
     element-set-from-blank
-    add-i
+    add-place
     loop-less
     loop-again
     returns)

@@ -11,10 +11,10 @@ use Rattle.unit.proofs.records.put.Statement.{statement}
 use Rattle.unit.proofs.records.put.Tie as tie
 
 abbrev Inv-loop : tie.InvT-loop
-Inv-loop reading s₀ address blank next₀ i₀ s next i = Passing (taken reading address) (peerOf next₀) s₀ next s i
+Inv-loop reading s₀ address blank next₀ place₀ s next place = Passing (taken reading address) (peerOf next₀) s₀ next s place
 
 abbrev μ-loop : tie.MeasureT-loop
-μ-loop reading s₀ address blank next₀ i₀ s next i = 16 - i
+μ-loop reading s₀ address blank next₀ place₀ s next place = 16 - place
 
 vacant-requires : tie.Need-vacant-requires Inv-loop μ-loop
 vacant-requires c κs = search needs
@@ -46,8 +46,8 @@ mul-next c = search needs
 element-set-from-next : tie.Need-element-set-from-next Inv-loop μ-loop
 element-set-from-next c = search needs
 
-add-i : tie.Need-add-i Inv-loop μ-loop
-add-i c = search needs
+add-place : tie.Need-add-place Inv-loop μ-loop
+add-place c = search needs
 
 loop-less : tie.Need-loop-less Inv-loop μ-loop
 loop-less c = search needs
@@ -84,7 +84,7 @@ put-spec =
     is-other-requires
     mul-next
     element-set-from-next
-    add-i
+    add-place
     loop-less
     loop-again
     returns)

@@ -1,28 +1,32 @@
--- A receive in a host's records, by what was decided.
+-- The operations in a host's records, by what was decided.
 use Prim.Native.Nat.{ℕ}
-use mathlib.Core.Path.{_≡_, sym, subst}
+use mathlib.Core.Path.{_≡_, refl, subst}
 use mathlib.Core.List.{List}
 use lib.ListN.{length, getD}
 use Rattle.units.specs.declared.Tu.{Tu}
 use Rattle.peers.specs.declared.Found.{Found}
 use Rattle.peers.specs.declared.Found.the-variants.{At}
 use Rattle.peers.specs.declared.Peer.{Peer}
-use Rattle.peers.specs.Promises.{FoundAt, Puts, Drops}
-use Rattle.rules.specs.declared.Answer.{Answer}
+use Rattle.peers.specs.Promises.{Finds, FoundAt, Puts, Drops}
+use Rattle.peers.specs.View.{vacantPeer}
 use Rattle.rules.specs.declared.Brought.{Brought}
 use Rattle.rules.specs.declared.Leaves.{Leaves}
 use Rattle.rules.specs.OnePeer.{Call}
 use Rattle.rules.specs.Told.{callOf}
 use Rattle.calls.specs.Calls.{seen, isFull}
 use Rattle.platform.specs.declared.Decision.{Decision}
-use Rattle.platform.specs.Promises.{DecidesBy, Receives}
+use Rattle.platform.specs.declared.LookedUp.{LookedUp}
+use Rattle.platform.specs.declared.Removal.{Removal}
+use Rattle.platform.specs.Promises.{DecidesBy, Receives, removalNumber, RemovesBy, Removes, LooksBy}
+use Rattle.platform.proofs.Asking.{looks-up, removes-clock, removes-group, removes-none, removes-some}
 use Rattle.platform.proofs.Finding.{Sees, sees-at}
 use Rattle.platform.proofs.Receiving.{received-same, received-gone, received-becomes}
 use Rattle.unit.specs.declared.HostCall.{HostCall}
+use Rattle.unit.specs.declared.LookUpResult.{LookUpResult}
 use Rattle.unit.specs.declared.ReceiveResult.{ReceiveResult}
 use Rattle.unit.specs.declared.state.State.{State}
 use Rattle.unit.specs.Crossing.{peerOf, tableOf}
-use Rattle.unit.specs.Promises.{broughtOf, receiveResultOf, ReceivesIn}
+use Rattle.unit.specs.Promises.{broughtOf, receiveResultOf, lookUpResultOf, ReceivesIn, LooksUpIn, RemovesIn}
 use Rattle.unit.proofs.Kept.{noRecord, peer-at}
 
 -- the peer that a search found is the record at that place
@@ -57,3 +61,33 @@ module _ (s : State) (host : HostCall) {brought : Brought} (b : brought ≡ brou
         → ReceivesIn s host cache key mic body before r result after
     unfolding tableOf
     in-becomes c u = tells (received-becomes (tableOf s) call found peer w g c u)
+
+-- Look-up and removal.
+module _ (s : State) (address : List ℕ) (reading : ℕ) where
+  pub looks-in : {found : Found} {peer : Peer} {r : LookedUp} {result : LookUpResult} → Sees (tableOf s) address (record { 0 = reading }) found peer
+      → LooksBy (record { 0 = s .«latest_tu» }) address (record { 0 = reading }) (seen found peer) r → result ≡ lookUpResultOf r → LooksUpIn s address reading result
+  unfolding tableOf
+  looks-in {r = r} w g told = record { outcome = r; promised = looks-up (tableOf s) address (record { 0 = reading }) w g; told = told }
+
+  module _ (found : Found) (f : Finds (tableOf s) address (record { 0 = reading }) found)
+      {answer : Removal} (g : RemovesBy (record { 0 = s .«latest_tu» }) address (record { 0 = reading }) (seen found vacantPeer) answer) where
+    takes : {s' : State} → Removes (tableOf s) address (record { 0 = reading }) (record { table = tableOf s'; answer = answer })
+        → RemovesIn s address reading s' (removalNumber answer)
+    takes r = record { removal = answer; removed = r; told = refl }
+
+    pub in-clock : answer ≡ Removal.ClockOut → RemovesIn s address reading s (removalNumber answer)
+    unfolding tableOf
+    in-clock e = takes (removes-clock (tableOf s) address (record { 0 = reading }) found f g e)
+
+    pub in-group : answer ≡ Removal.GroupAddress → RemovesIn s address reading s (removalNumber answer)
+    unfolding tableOf
+    in-group e = takes (removes-group (tableOf s) address (record { 0 = reading }) found f g e)
+
+    pub in-none : answer ≡ Removal.NoRecord → RemovesIn s address reading (datedIn s (record { 0 = reading })) (removalNumber answer)
+    unfolding tableOf
+    in-none e = takes (removes-none (tableOf s) address (record { 0 = reading }) found f g e)
+
+    pub in-some : {r : State} → answer ≡ Removal.Removed → Drops (tableOf (datedIn s (record { 0 = reading }))) address (tableOf r)
+        → RemovesIn s address reading r (removalNumber answer)
+    unfolding tableOf
+    in-some e d = takes (removes-some (tableOf s) address (record { 0 = reading }) found f g e d)

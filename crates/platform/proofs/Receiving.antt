@@ -122,7 +122,7 @@ module _ (call : Call) (latest : Tu) (full : Bool) (own : Option Peer) where
   }
 
 -- a record that stays
-abbrev Stays : Left → Type 0
+abbrev pub Stays : Left → Type 0
 Stays same = Unit {0}
 Stays gone = ⊥
 Stays (becomes p) = ⊥
@@ -176,6 +176,13 @@ module _ (t : Table) (call : Call) (found : Found) (peer : Peer) (w : Sees t (ca
       dates = record { early = early; latest = λ h. l ∙ dated-by false h };
       settles = settles-by t (call .address) (call .reading) s left;
     })
+
+  -- after an answer of 1 to 5 neither a record nor the latest reading is another
+  pub early-stays : {k : Leaves} → d .change ≡ k → isEarly (numberOf (d .answer)) ≡ true → Stays (leftBy k (d .peer))
+  early-stays c h = stays c (ap (λ (a : Answer). isEarly (numberOf a)) (sym (g .answer)) ∙ h)
+
+  pub early-dated : isEarly (numberOf (d .answer)) ≡ true → d .latest ≡ t .latest
+  early-dated h = g .dates ∙ rw h
 
   pub received-same : d .change ≡ Leaves.Same → Receives t call before after (record { table = dated t (d .latest); answer = d .answer; length = d .length })
   received-same c = received c (λ h. ap (dated t) (dated-by c true h)) refl (settles-same t (call .address) (call .reading))

@@ -1,6 +1,7 @@
 -- The operations in a host's records, by what was decided.
 use Prim.Native.Nat.{ℕ}
-use mathlib.Core.Path.{_≡_, refl, subst}
+use mathlib.Core.Path.{_≡_, refl, sym, ap, subst, _∙_}
+use mathlib.Core.Bool.{true, false, false≢true}
 use mathlib.Core.List.{List}
 use lib.ListN.{length, getD}
 use Rattle.units.specs.declared.Tu.{Tu}
@@ -11,16 +12,16 @@ use Rattle.peers.specs.Promises.{Finds, FoundAt, Puts, Drops}
 use Rattle.peers.specs.View.{vacantPeer}
 use Rattle.rules.specs.declared.Brought.{Brought}
 use Rattle.rules.specs.declared.Leaves.{Leaves}
-use Rattle.rules.specs.OnePeer.{Call}
+use Rattle.rules.specs.OnePeer.{Call, numberOf}
 use Rattle.rules.specs.Told.{callOf}
 use Rattle.calls.specs.Calls.{seen, isFull}
 use Rattle.platform.specs.declared.Decision.{Decision}
 use Rattle.platform.specs.declared.LookedUp.{LookedUp}
 use Rattle.platform.specs.declared.Removal.{Removal}
-use Rattle.platform.specs.Promises.{DecidesBy, Receives, removalNumber, RemovesBy, Removes, LooksBy}
+use Rattle.platform.specs.Promises.{isEarly, DecidesBy, Receives, removalNumber, RemovesBy, Removes, LooksBy}
 use Rattle.platform.proofs.Asking.{looks-up, removes-clock, removes-group, removes-none, removes-some}
 use Rattle.platform.proofs.Finding.{Sees, sees-at}
-use Rattle.platform.proofs.Receiving.{received-same, received-gone, received-becomes}
+use Rattle.platform.proofs.Receiving.{early-stays, early-dated, received-same, received-gone, received-becomes}
 use Rattle.unit.specs.declared.HostCall.{HostCall}
 use Rattle.unit.specs.declared.LookUpResult.{LookUpResult}
 use Rattle.unit.specs.declared.ReceiveResult.{ReceiveResult}
@@ -45,22 +46,22 @@ module _ (s : State) (host : HostCall) {brought : Brought} (b : brought ≡ brou
       {after : List ℕ} {d : Decision} (g : DecidesBy call (record { 0 = s .«latest_tu» }) (isFull found) (seen found peer) before after d)
       {result : ReceiveResult} (told : result ≡ receiveResultOf (d .answer) (d .length)) where
     tells : {s' : State} → Receives (tableOf s) call before after (record { table = tableOf s'; answer = d .answer; length = d .length })
-        → ReceivesIn s host cache key mic body before s' result after
-    tells r = record { answer = d .answer; length' = d .length; received = rw b at r; told = told }
+        → (isEarly (numberOf (d .answer)) ≡ true → s' ≡ s) → ReceivesIn s host cache key mic body before s' result after
+    tells r early = record { answer = d .answer; length' = d .length; received = rw b at r; told = told; early = early }
 
     pub in-same : d .change ≡ Leaves.Same → ReceivesIn s host cache key mic body before (datedIn s (d .latest)) result after
     unfolding tableOf
-    in-same c = tells (received-same (tableOf s) call found peer w g c)
+    in-same c = tells (received-same (tableOf s) call found peer w g c) (λ h. ap (datedIn s) (early-dated (tableOf s) call found peer w g h))
 
     pub in-gone : {r : State} → d .change ≡ Leaves.WaitingGoes → Drops (tableOf (datedIn s (d .latest))) (brought .address) (tableOf r)
         → ReceivesIn s host cache key mic body before r result after
     unfolding tableOf
-    in-gone c u = tells (received-gone (tableOf s) call found peer w g c u)
+    in-gone c u = tells (received-gone (tableOf s) call found peer w g c u) (λ h. absurd (early-stays (tableOf s) call found peer w g c h))
 
     pub in-becomes : {r : State} → d .change ≡ Leaves.Becomes → Puts (tableOf (datedIn s (d .latest))) (d .peer) (brought .reading) (tableOf r)
         → ReceivesIn s host cache key mic body before r result after
     unfolding tableOf
-    in-becomes c u = tells (received-becomes (tableOf s) call found peer w g c u)
+    in-becomes c u = tells (received-becomes (tableOf s) call found peer w g c u) (λ h. absurd (early-stays (tableOf s) call found peer w g c h))
 
 -- Look-up and removal.
 module _ (s : State) (address : List ℕ) (reading : ℕ) where
@@ -72,22 +73,26 @@ module _ (s : State) (address : List ℕ) (reading : ℕ) where
   module _ (found : Found) (f : Finds (tableOf s) address (record { 0 = reading }) found)
       {answer : Removal} (g : RemovesBy (record { 0 = s .«latest_tu» }) address (record { 0 = reading }) (seen found vacantPeer) answer) where
     takes : {s' : State} → Removes (tableOf s) address (record { 0 = reading }) (record { table = tableOf s'; answer = answer })
-        → RemovesIn s address reading s' (removalNumber answer)
-    takes r = record { removal = answer; removed = r; told = refl }
+        → (isEarly (removalNumber answer) ≡ true → s' ≡ s) → RemovesIn s address reading s' (removalNumber answer)
+    takes r early = record { removal = answer; removed = r; told = refl; early = early }
+
+    -- 16 and 17 are none of 1 to 5
+    late : {k : Removal} → answer ≡ k → isEarly (removalNumber k) ≡ false → {A : Type 0} → isEarly (removalNumber answer) ≡ true → A
+    late e n h = absurd (false≢true (sym (ap (λ (k : Removal). isEarly (removalNumber k)) e ∙ n) ∙ h))
 
     pub in-clock : answer ≡ Removal.ClockOut → RemovesIn s address reading s (removalNumber answer)
     unfolding tableOf
-    in-clock e = takes (removes-clock (tableOf s) address (record { 0 = reading }) found f g e)
+    in-clock e = takes (removes-clock (tableOf s) address (record { 0 = reading }) found f g e) (λ h. refl)
 
     pub in-group : answer ≡ Removal.GroupAddress → RemovesIn s address reading s (removalNumber answer)
     unfolding tableOf
-    in-group e = takes (removes-group (tableOf s) address (record { 0 = reading }) found f g e)
+    in-group e = takes (removes-group (tableOf s) address (record { 0 = reading }) found f g e) (λ h. refl)
 
     pub in-none : answer ≡ Removal.NoRecord → RemovesIn s address reading (datedIn s (record { 0 = reading })) (removalNumber answer)
     unfolding tableOf
-    in-none e = takes (removes-none (tableOf s) address (record { 0 = reading }) found f g e)
+    in-none e = takes (removes-none (tableOf s) address (record { 0 = reading }) found f g e) (late e refl)
 
     pub in-some : {r : State} → answer ≡ Removal.Removed → Drops (tableOf (datedIn s (record { 0 = reading }))) address (tableOf r)
         → RemovesIn s address reading r (removalNumber answer)
     unfolding tableOf
-    in-some e d = takes (removes-some (tableOf s) address (record { 0 = reading }) found f g e d)
+    in-some e d = takes (removes-some (tableOf s) address (record { 0 = reading }) found f g e d) (late e refl)

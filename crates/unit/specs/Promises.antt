@@ -1,6 +1,7 @@
 -- What the exported operations promise: what the platform's promise of the table that the state is, told in numbers.
 use Prim.Native.Nat.{ℕ, _+_, _≤_}
 use mathlib.Core.Path.{_≡_}
+use mathlib.Core.Bool.{true}
 use mathlib.Core.List.{List}
 use mathlib.Core.Option.{Option, none, some}
 use lib.ListN.{length, replicate}
@@ -14,7 +15,7 @@ use Rattle.rules.specs.OnePeer.{numberOf, statusOf}
 use Rattle.rules.specs.Told.{callOf}
 use Rattle.platform.specs.declared.Removal.{Removal}
 use Rattle.platform.specs.declared.LookedUp.{LookedUp}
-use Rattle.platform.specs.Promises.{removalNumber, lookNumber, Receives, Removes, LooksUp}
+use Rattle.platform.specs.Promises.{isEarly, removalNumber, lookNumber, Receives, Removes, LooksUp}
 use Rattle.unit.specs.declared.HostSettings.{HostSettings}
 use Rattle.unit.specs.declared.HostCall.{HostCall}
 use Rattle.unit.specs.declared.ReceiveResult.{ReceiveResult}
@@ -61,12 +62,14 @@ pub record Told {A B : Type 0} (Promised : A → Type 0) (tell : A → B) (r : B
   pub told : r ≡ tell outcome
 
 -- A receive leaves a state and tells a result: the two states are tables as the platform promises, and the result is its answer and length in numbers.
+-- Beside 1 to 5 it is the very state that came in.
 pub record ReceivesIn (s : State) (call : HostCall) (cache key mic body before : List ℕ) (s' : State) (result : ReceiveResult) (after : List ℕ) : Type 0 where
   pub answer : Answer
   pub length' : ℕ
   pub received : Receives (tableOf s) (callOf (broughtOf call) cache key mic body (length before)) before after
       (record { table = tableOf s'; answer = answer; length = length' })
   pub told : result ≡ receiveResultOf answer length'
+  pub early : isEarly (numberOf answer) ≡ true → s' ≡ s
 
 abbrev pub LooksUpIn : State → (address : List ℕ) (reading : ℕ) → LookUpResult → Type 0
 LooksUpIn s address reading r = Told (LooksUp (tableOf s) address (record { 0 = reading })) lookUpResultOf r
@@ -76,6 +79,7 @@ pub record RemovesIn (s : State) (address : List ℕ) (reading : ℕ) (s' : Stat
   pub removal : Removal
   pub removed : Removes (tableOf s) address (record { 0 = reading }) (record { table = tableOf s'; answer = removal })
   pub told : answer ≡ removalNumber removal
+  pub early : isEarly (removalNumber removal) ≡ true → s' ≡ s
 
 -- The key's place in the body: where it begins and how many octets it has, and 0 and 0 where no key is shown.
 pub record KeyAt (body : List ℕ) (r : KeyPlace) : Type 0 where

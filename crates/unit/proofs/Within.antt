@@ -47,7 +47,16 @@ module _ (s : State) (host : HostCall) {brought : Brought} (b : brought ≡ brou
       {result : ReceiveResult} (told : result ≡ receiveResultOf (d .answer) (d .length)) where
     tells : {s' : State} → Receives (tableOf s) call before after (record { table = tableOf s'; answer = d .answer; length = d .length })
         → (isEarly (numberOf (d .answer)) ≡ true → s' ≡ s) → ReceivesIn s host cache key mic body before s' result after
-    tells r early = record { answer = d .answer; length' = d .length; received = rw b at r; told = told; early = early }
+    tells {s'} r early =
+        let number = ap (λ (x : ReceiveResult). x .answer) told in
+        record {
+          answer = d .answer;
+          number = number;
+          status = ap (λ (x : ReceiveResult). x .status) told;
+          received = subst (λ (l : ℕ). Receives (tableOf s) (callOf (broughtOf host) cache key mic body (length before)) before after (record { table = tableOf s'; answer = d .answer; length = l }))
+              (sym (ap (λ (x : ReceiveResult). x .length) told)) (rw b at r);
+          early = λ h. early (ap isEarly (sym number) ∙ h);
+        }
 
     pub in-same : d .change ≡ Leaves.Same → ReceivesIn s host cache key mic body before (datedIn s (d .latest)) result after
     unfolding tableOf
@@ -74,7 +83,7 @@ module _ (s : State) (address : List ℕ) (reading : ℕ) where
       {answer : Removal} (g : RemovesBy (record { 0 = s .«latest_tu» }) address (record { 0 = reading }) (seen found vacantPeer) answer) where
     takes : {s' : State} → Removes (tableOf s) address (record { 0 = reading }) (record { table = tableOf s'; answer = answer })
         → (isEarly (removalNumber answer) ≡ true → s' ≡ s) → RemovesIn s address reading s' (removalNumber answer)
-    takes r early = record { removal = answer; removed = r; told = refl; early = early }
+    takes r early = record { removal = answer; number = refl; removed = r; early = early }
 
     -- 16 and 17 are none of 1 to 5
     late : {k : Removal} → answer ≡ k → isEarly (removalNumber k) ≡ false → {A : Type 0} → isEarly (removalNumber answer) ≡ true → A

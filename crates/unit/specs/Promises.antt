@@ -61,15 +61,15 @@ pub record Told {A B : Type 0} (Promised : A → Type 0) (tell : A → B) (r : B
   pub promised : Promised outcome
   pub told : r ≡ tell outcome
 
--- A receive leaves a state and tells a result: the two states are tables as the platform promises, and the result is its answer and length in numbers.
--- Beside 1 to 5 it is the very state that came in.
+-- A receive leaves a state and tells a result: the states are tables as the platform promises, and the result is told in numbers.
+-- Beside 1 to 5 the state is the very one that came in.
 pub record ReceivesIn (s : State) (call : HostCall) (cache key mic body before : List ℕ) (s' : State) (result : ReceiveResult) (after : List ℕ) : Type 0 where
   pub answer : Answer
-  pub length' : ℕ
+  pub number : result .answer ≡ numberOf answer
+  pub status : result .status ≡ statusNumber answer
   pub received : Receives (tableOf s) (callOf (broughtOf call) cache key mic body (length before)) before after
-      (record { table = tableOf s'; answer = answer; length = length' })
-  pub told : result ≡ receiveResultOf answer length'
-  pub early : isEarly (numberOf answer) ≡ true → s' ≡ s
+      (record { table = tableOf s'; answer = answer; length = result .length })
+  pub early : isEarly (result .answer) ≡ true → s' ≡ s
 
 abbrev pub LooksUpIn : State → (address : List ℕ) (reading : ℕ) → LookUpResult → Type 0
 LooksUpIn s address reading r = Told (LooksUp (tableOf s) address (record { 0 = reading })) lookUpResultOf r
@@ -77,9 +77,9 @@ LooksUpIn s address reading r = Told (LooksUp (tableOf s) address (record { 0 = 
 -- A removal leaves a state and tells an answer, likewise.
 pub record RemovesIn (s : State) (address : List ℕ) (reading : ℕ) (s' : State) (answer : ℕ) : Type 0 where
   pub removal : Removal
+  pub number : answer ≡ removalNumber removal
   pub removed : Removes (tableOf s) address (record { 0 = reading }) (record { table = tableOf s'; answer = removal })
-  pub told : answer ≡ removalNumber removal
-  pub early : isEarly (removalNumber removal) ≡ true → s' ≡ s
+  pub early : isEarly answer ≡ true → s' ≡ s
 
 -- The key's place in the body: where it begins and how many octets it has, and 0 and 0 where no key is shown.
 pub record KeyAt (body : List ℕ) (r : KeyPlace) : Type 0 where

@@ -1,7 +1,4 @@
 pub mod Cases
-pub mod Mapping
-pub mod Crossed
-pub mod Kept
 pub mod Within
 pub mod Statuses
 pub mod Keys

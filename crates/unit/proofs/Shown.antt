@@ -4,7 +4,7 @@ use Rattle.peers.specs.declared.Peer.{Peer}
 use Rattle.peers.specs.View.{vacantPeer}
 use Rattle.platform.specs.declared.LookUp.{LookUp}
 use Rattle.platform.specs.Promises.{IsShown, lookNumber}
-use Rattle.unit.specs.Crossing.{recordOf}
+use Rattle.hosts.specs.Crossing.{recordOf}
 use Rattle.unit.specs.Promises.{zeros, ZerosUnlessShown}
 
 vacant-zeros : recordOf vacantPeer ≡ zeros

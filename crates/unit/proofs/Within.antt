@@ -25,10 +25,10 @@ use Rattle.platform.proofs.Receiving.{early-stays, early-dated, received-same, 
 use Rattle.unit.specs.declared.HostCall.{HostCall}
 use Rattle.unit.specs.declared.LookUpResult.{LookUpResult}
 use Rattle.unit.specs.declared.ReceiveResult.{ReceiveResult}
-use Rattle.unit.specs.declared.state.State.{State}
-use Rattle.unit.specs.Crossing.{peerOf, tableOf}
+use Rattle.hosts.specs.declared.State.{State}
+use Rattle.hosts.specs.Crossing.{peerOf, tableOf}
 use Rattle.unit.specs.Promises.{broughtOf, receiveResultOf, lookUpResultOf, ReceivesIn, LooksUpIn, RemovesIn}
-use Rattle.unit.proofs.Kept.{noRecord, peer-at}
+use Rattle.hosts.proofs.Kept.{noRecord, peer-at}
 
 -- the peer that a search found is the record at that place
 pub sees-record : (s : State) (a : List ℕ) (n : Tu) {i : ℕ} {p : Peer} → FoundAt (tableOf s) a n i → p ≡ peerOf (getD (s .records) i noRecord) → Sees (tableOf s) a n (At i) p

@@ -21,9 +21,9 @@ use Rattle.unit.specs.declared.HostCall.{HostCall}
 use Rattle.unit.specs.declared.ReceiveResult.{ReceiveResult}
 use Rattle.unit.specs.declared.LookUpResult.{LookUpResult}
 use Rattle.unit.specs.declared.KeyPlace.{KeyPlace}
-use Rattle.unit.specs.declared.state.Record.{Record}
-use Rattle.unit.specs.declared.state.State.{State}
-use Rattle.unit.specs.Crossing.{isYes, recordOf, tableOf}
+use Rattle.hosts.specs.declared.Record.{Record}
+use Rattle.hosts.specs.declared.State.{State}
+use Rattle.hosts.specs.Crossing.{isYes, recordOf, tableOf}
 
 abbrev pub settingsOf : HostSettings → Settings
 settingsOf s = record {

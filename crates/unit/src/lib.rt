@@ -4,12 +4,10 @@ ghost use lib.ListN.{length};
 ghost use Rattle.bodies.specs.Bodies.{numberOf, zeroAnswer, zeroed, setAnswer, setOctets};
 ghost use Rattle.peers.specs.Promises.{Nobody};
 ghost use Rattle.platform.specs.Promises.{removalNumber};
-ghost use Rattle.unit.specs.Crossing.{tableOf};
+ghost use Rattle.hosts.specs.Crossing.{tableOf};
 ghost use Rattle.unit.specs.Promises.{settingsOf, broughtOf, statusNumber, receiveResultOf, lookUpResultOf, ReceivesIn, LooksUpIn, RemovesIn, KeyAt};
-
-mod records;
-mod state;
-
+use hosts::Record;
+use hosts::State;
 use peers::Found;
 use platform::LookedUp;
 use platform::Removal;
@@ -17,8 +15,6 @@ use rules::Answer;
 use rules::Brought;
 use rules::Leaves;
 use rules::Settings;
-use state::Record;
-use state::State;
 use units::Seconds;
 use units::Tu;
 
@@ -75,7 +71,7 @@ fn settings_of(s: HostSettings) -> Settings
     ensures { λ r. ⌜ r ≡ settingsOf s ⌝ }
 {
     Settings {
-        pmkless: state::is_yes(s.allow_pmkless),
+        pmkless: hosts::is_yes(s.allow_pmkless),
         ciphers: s.allow_ciphers,
         lifetime: Seconds(s.lifetime_seconds),
         deadline: Tu(s.deadline_tu),
@@ -91,7 +87,7 @@ fn brought_of(call: HostCall) -> Brought
         settings: settings_of(settings),
         reading: Tu(call.reading_tu),
         address: address,
-        point: state::is_yes(call.point_valid),
+        point: hosts::is_yes(call.point_valid),
     }
 }
 
@@ -130,7 +126,7 @@ fn look_up_result(r: LookedUp) -> LookUpResult
     let peer = r.peer;
     LookUpResult {
         answer: platform::look_number(answer),
-        shown: state::record_of(peer),
+        shown: hosts::record_of(peer),
     }
 }
 
@@ -147,7 +143,7 @@ fn given_back(state: State, result: ReceiveResult) -> Receiving
 pub extern "C" fn galebeacon_empty() -> State
     ensures { λ r. ⌜ Nobody (tableOf r) ⌝ }
 {
-    state::state_of(platform::empty())
+    hosts::state_of(platform::empty())
 }
 
 // Each operation on the state is here by value; the exported one beside it lends the state.
@@ -165,11 +161,11 @@ fn receive_in(
     let brought = brought_of(call);
     let address = brought.address;
     let reading = brought.reading;
-    let found = records::find(state, address, reading);
+    let found = hosts::find(state, address, reading);
     let mut peer = peers::vacant();
     if let Found::At(i) = found {
         let r = state.records[i];
-        peer = state::peer_of(r);
+        peer = hosts::peer_of(r);
     }
     let latest = Tu(state.latest_tu);
     let decision = platform::decide(latest, found, peer, brought, cache, key, mic, body, reply);
@@ -181,8 +177,8 @@ fn receive_in(
     state.latest_tu = dated.0;
     match change {
         Leaves::Same => given_back(state, result),
-        Leaves::WaitingGoes => given_back(records::drop(state, address), result),
-        Leaves::Becomes => given_back(records::put(state, next, reading), result),
+        Leaves::WaitingGoes => given_back(hosts::drop(state, address), result),
+        Leaves::Becomes => given_back(hosts::put(state, next, reading), result),
     }
 }
 
@@ -208,11 +204,11 @@ fn look_up_in(state: State, address: &[u8; 6], reading_tu: u64) -> LookUpResult
 {
     let a = *address;
     let reading = Tu(reading_tu);
-    let found = records::find(state, a, reading);
+    let found = hosts::find(state, a, reading);
     let mut peer = peers::vacant();
     if let Found::At(i) = found {
         let r = state.records[i];
-        peer = state::peer_of(r);
+        peer = hosts::peer_of(r);
     }
     let latest = Tu(state.latest_tu);
     look_up_result(platform::decide_look_up(latest, found, peer, a, reading))
@@ -234,7 +230,7 @@ fn remove_in(state: State, address: &[u8; 6], reading_tu: u64) -> Removing
 {
     let a = *address;
     let reading = Tu(reading_tu);
-    let found = records::find(state, a, reading);
+    let found = hosts::find(state, a, reading);
     let latest = Tu(state.latest_tu);
     let answer = platform::decide_removal(latest, found, a, reading);
     let mut dated = state;
@@ -243,7 +239,7 @@ fn remove_in(state: State, address: &[u8; 6], reading_tu: u64) -> Removing
         Removal::ClockOut => taken_out(state, answer),
         Removal::GroupAddress => taken_out(state, answer),
         Removal::NoRecord => taken_out(dated, answer),
-        Removal::Removed => taken_out(records::drop(dated, a), answer),
+        Removal::Removed => taken_out(hosts::drop(dated, a), answer),
     }
 }
 

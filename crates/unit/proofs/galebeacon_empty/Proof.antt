@@ -1,4 +1,4 @@
-use Rattle.unit.proofs.Crossed.{comes-back}
+use Rattle.hosts.proofs.Crossed.{comes-back}
 use borrow.Author.Needs.{needs}
 use Rattle.unit.proofs.galebeacon_empty.Statement.{statement}
 use Rattle.unit.proofs.galebeacon_empty.Tie as tie

@@ -38,9 +38,9 @@ use denote.Triple.Clauses.{ensured, lasts}
 use denote.Triple.Table.{entered, cited}
 use denote.Triple.Walked.{says, Stays, stay-dropped, walkOf, AllGo, goes-dropped, Walks, ends-at, walked, walk-meets}
 use denote.Exit.{yes}
-use Rattle.unit.specs.declared.state.State.{State}
-use Rattle.unit.proofs.state.State as T
-use Rattle.unit.proofs.state.State.Laws as T′
+use Rattle.hosts.specs.declared.State.{State}
+use Rattle.hosts.proofs.State as T
+use Rattle.hosts.proofs.State.Laws as T′
 use Rattle.unit.specs.declared.LookUpResult.{LookUpResult}
 use Rattle.unit.proofs.LookUpResult as R
 use Rattle.unit.proofs.LookUpResult.Laws as R′

@@ -41,9 +41,9 @@ use denote.Triple.Clauses.{ensured, lasts}
 use denote.Triple.Table.{entered, cited}
 use denote.Triple.Walked.{says, Stays, stay-ref, stay-dropped, gave-slice, walkOf, AllGo, goes-ref, goes-dropped, goes-gave-slice, Walks, ends-at, walked, walk-meets}
 use denote.Exit.{yes}
-use Rattle.unit.specs.declared.state.State.{State}
-use Rattle.unit.proofs.state.State as T
-use Rattle.unit.proofs.state.State.Laws as T′
+use Rattle.hosts.specs.declared.State.{State}
+use Rattle.hosts.proofs.State as T
+use Rattle.hosts.proofs.State.Laws as T′
 use Rattle.unit.specs.declared.Receiving.{Receiving}
 use Rattle.unit.proofs.Receiving as R
 use Rattle.unit.proofs.Receiving.Laws as R′

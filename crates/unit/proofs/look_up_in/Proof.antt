@@ -2,7 +2,7 @@ use mathlib.Core.Logic.{⊎-elim}
 use native.Mathlib.Omega.{arith}
 use borrow.Author.Needs.{needs}
 use Rattle.platform.proofs.Finding.{Sees, found-at, sees-none}
-use Rattle.unit.specs.Crossing.{tableOf}
+use Rattle.hosts.specs.Crossing.{tableOf}
 use Rattle.unit.proofs.Within.{sees-record, looks-in}
 use Rattle.unit.proofs.look_up_in.Statement.{statement}
 use Rattle.unit.proofs.look_up_in.Tie as tie

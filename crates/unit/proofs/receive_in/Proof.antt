@@ -2,7 +2,7 @@ use mathlib.Core.Logic.{⊎-elim}
 use native.Mathlib.Omega.{arith}
 use borrow.Author.Needs.{needs}
 use Rattle.platform.proofs.Finding.{Sees, found-at, sees-none}
-use Rattle.unit.specs.Crossing.{tableOf}
+use Rattle.hosts.specs.Crossing.{tableOf}
 use Rattle.unit.proofs.Within.{sees-record, in-same, in-gone, in-becomes}
 use Rattle.unit.proofs.receive_in.Statement.{statement}
 use Rattle.unit.proofs.receive_in.Tie as tie

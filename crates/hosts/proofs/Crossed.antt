@@ -7,8 +7,8 @@ use Rattle.peers.specs.declared.Phase.{Phase}
 use Rattle.peers.specs.declared.Phase.the-variants.{Waiting, Installed}
 use Rattle.peers.specs.declared.Table.{Table}
 use Rattle.peers.specs.View.{until}
-use Rattle.unit.specs.declared.state.State.{State}
-use Rattle.unit.specs.Crossing.{isYes, yesNumber, phaseOf, phaseNumber, peerOf, recordOf, tableOf, stateOf, ComesBack}
+use Rattle.hosts.specs.declared.State.{State}
+use Rattle.hosts.specs.Crossing.{isYes, yesNumber, phaseOf, phaseNumber, peerOf, recordOf, tableOf, stateOf, ComesBack}
 
 pub is-state : (s : State) (t : Table) → s .records ≡ map recordOf (t .peers) → s .«latest_tu» ≡ t .latest .0 → s ≡ stateOf t
 unfolding stateOf

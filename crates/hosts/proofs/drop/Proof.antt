@@ -6,15 +6,15 @@ use borrow.Author.Needs.{needs}
 use Rattle.peers.specs.View.{vacantPeer}
 use Rattle.peers.proofs.Places.{long}
 use Rattle.peers.proofs.Promised.{elsewhere, drops}
-use Rattle.unit.proofs.Kept.{is-told, Passing, passing-begins, passing-keeps, passing-stores, passing-ends}
-use Rattle.unit.proofs.records.drop.Statement.{statement}
-use Rattle.unit.proofs.records.drop.Tie as tie
+use Rattle.hosts.proofs.Kept.{is-told, Passing, passing-begins, passing-keeps, passing-stores, passing-ends}
+use Rattle.hosts.proofs.drop.Statement.{statement}
+use Rattle.hosts.proofs.drop.Tie as tie
 
 abbrev Inv-loop : tie.InvT-loop
-Inv-loop address s₀ blank place₀ s place = Passing (elsewhere address) vacantPeer s₀ blank s place
+Inv-loop address s₀ blank k₀ s k = Passing (elsewhere address) vacantPeer s₀ blank s k
 
 abbrev μ-loop : tie.MeasureT-loop
-μ-loop address s₀ blank place₀ s place = 16 - place
+μ-loop address s₀ blank k₀ s k = 16 - k
 
 vacant-requires : tie.Need-vacant-requires Inv-loop μ-loop
 vacant-requires c κs = search needs
@@ -43,8 +43,8 @@ mul-blank c = search needs
 element-set-from-blank : tie.Need-element-set-from-blank Inv-loop μ-loop
 element-set-from-blank c = search needs
 
-add-place : tie.Need-add-place Inv-loop μ-loop
-add-place c = search needs
+add-k : tie.Need-add-k Inv-loop μ-loop
+add-k c = search needs
 
 loop-less : tie.Need-loop-less Inv-loop μ-loop
 loop-less c = search needs
@@ -77,7 +77,7 @@ drop-spec =
     is-of-requires
     mul-blank
     element-set-from-blank
-    add-place
+    add-k
     loop-less
     loop-again
     returns)

@@ -3,11 +3,11 @@ use mathlib.Core.Path.{_≡_, refl}
 use native.Mathlib.Omega.{arith}
 use borrow.Author.Needs.{needs}
 use Rattle.peers.proofs.Places.{long}
-use Rattle.unit.specs.Crossing.{recordOf}
-use Rattle.unit.proofs.Mapping.{Mapping, mapping-begins, mapping-goes, mapping-ends}
-use Rattle.unit.proofs.Crossed.{is-state}
-use Rattle.unit.proofs.state.state_of.Statement.{statement}
-use Rattle.unit.proofs.state.state_of.Tie as tie
+use Rattle.hosts.specs.Crossing.{recordOf}
+use Rattle.hosts.proofs.Mapping.{Mapping, mapping-begins, mapping-goes, mapping-ends}
+use Rattle.hosts.proofs.Crossed.{is-state}
+use Rattle.hosts.proofs.state_of.Statement.{statement}
+use Rattle.hosts.proofs.state_of.Tie as tie
 
 abbrev Inv-loop : tie.InvT-loop
 Inv-loop t s₀ place₀ s place = Mapping recordOf (t .peers) (s .records) place × (s .«latest_tu» ≡ s₀ .«latest_tu»)

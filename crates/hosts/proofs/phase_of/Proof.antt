@@ -1,6 +1,6 @@
 use borrow.Author.Tests.{eq-eqb, ne-eqb}
-use Rattle.unit.proofs.state.phase_of.Statement.{statement}
-use Rattle.unit.proofs.state.phase_of.Tie as tie
+use Rattle.hosts.proofs.phase_of.Statement.{statement}
+use Rattle.hosts.proofs.phase_of.Tie as tie
 
 returns : tie.Need-returns
 returns c = rw (eq-eqb _ _ (c .if1 .taken))

@@ -10,10 +10,10 @@ use Rattle.peers.specs.Promises.{FoundAt, Missing}
 use Rattle.peers.specs.View.{live, isOf, vacantPeer, noPeer}
 use Rattle.peers.proofs.Places.{Searched, searched-none, searched-stops, searched-taken, searched-free, searched-all}
 use Rattle.peers.proofs.Filling.{fill, Filling, filling-begins, filling-keeps, filling-stores, filling-ends}
-use Rattle.unit.specs.declared.state.Record.{Record}
-use Rattle.unit.specs.declared.state.State.{State}
-use Rattle.unit.specs.Crossing.{peerOf, recordOf, tableOf}
-use Rattle.unit.proofs.Crossed.{peer-back}
+use Rattle.hosts.specs.declared.Record.{Record}
+use Rattle.hosts.specs.declared.State.{State}
+use Rattle.hosts.specs.Crossing.{peerOf, recordOf, tableOf}
+use Rattle.hosts.proofs.Crossed.{peer-back}
 
 -- what the rules for an array read past its end
 abbrev pub noRecord : Record

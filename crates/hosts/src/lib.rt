@@ -1,6 +1,8 @@
-// The state that a host keeps: numbers of which any octets are a legal value, and the table that they are.
+// The state that a host keeps: numbers of which any octets are a legal value, the table that they are, and the search and the store in them.
 ghost use mathlib.Core.Path.{_≡_};
-ghost use Rattle.unit.specs.Crossing.{isYes, yesNumber, phaseOf, phaseNumber, peerOf, recordOf, stateOf};
+ghost use Rattle.peers.specs.Promises.{Finds, Puts, Drops};
+ghost use Rattle.hosts.specs.Crossing.{isYes, yesNumber, phaseOf, phaseNumber, peerOf, recordOf, tableOf, stateOf};
+use peers::Found;
 use peers::Peer;
 use peers::Phase;
 use peers::Table;
@@ -108,6 +110,59 @@ pub fn state_of(t: Table) -> State
     for place in 0..16 {
         let p = t.peers[place];
         s.records[place] = record_of(p);
+    }
+    s
+}
+
+// What `peers` promises of a table holds of the table that the state is, which is never made.
+pub fn find(s: State, address: [u8; 6], reading: Tu) -> Found
+    ensures { λ r. ⌜ Finds (tableOf s) address reading r ⌝ }
+{
+    let mut free = false;
+    for i in 0..16 {
+        let r = s.records[i];
+        let p = peer_of(r);
+        if peers::is_live(p, reading) {
+            if peers::is_of(p, address) {
+                return Found::At(i);
+            }
+        } else {
+            free = true;
+        }
+    }
+    if free {
+        return Found::Free;
+    }
+    Found::Full
+}
+
+pub fn put(mut s: State, p: Peer, reading: Tu) -> State
+    ensures { λ r. ⌜ Puts (tableOf s) p reading (tableOf r) ⌝ }
+{
+    let address = p.address;
+    let blank = record_of(peers::vacant());
+    let mut next = record_of(p);
+    for k in 0..16 {
+        let r = s.records[k];
+        let q = peer_of(r);
+        if !peers::is_other(q, address, reading) {
+            s.records[k] = next;
+            next = blank;
+        }
+    }
+    s
+}
+
+pub fn drop(mut s: State, address: [u8; 6]) -> State
+    ensures { λ r. ⌜ Drops (tableOf s) address (tableOf r) ⌝ }
+{
+    let blank = record_of(peers::vacant());
+    for k in 0..16 {
+        let r = s.records[k];
+        let q = peer_of(r);
+        if peers::is_of(q, address) {
+            s.records[k] = blank;
+        }
     }
     s
 }

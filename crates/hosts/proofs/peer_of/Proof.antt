@@ -1,7 +1,7 @@
 use borrow.Author.Needs.{needs}
-use Rattle.unit.specs.Crossing.{peerOf}
-use Rattle.unit.proofs.state.peer_of.Statement.{statement}
-use Rattle.unit.proofs.state.peer_of.Tie as tie
+use Rattle.hosts.specs.Crossing.{peerOf}
+use Rattle.hosts.proofs.peer_of.Statement.{statement}
+use Rattle.hosts.proofs.peer_of.Tie as tie
 
 is-yes-requires : tie.Need-is-yes-requires
 is-yes-requires c κs = search needs

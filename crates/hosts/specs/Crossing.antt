@@ -10,8 +10,8 @@ use Rattle.peers.specs.declared.Phase.{Phase}
 use Rattle.peers.specs.declared.Phase.the-variants.{Waiting, Installed}
 use Rattle.peers.specs.declared.Table.{Table}
 use Rattle.peers.specs.View.{until}
-use Rattle.unit.specs.declared.state.Record.{Record}
-use Rattle.unit.specs.declared.state.State.{State}
+use Rattle.hosts.specs.declared.Record.{Record}
+use Rattle.hosts.specs.declared.State.{State}
 
 -- 0 is no, anything else yes
 abbrev pub isYes : ℕ → Bool

@@ -1,7 +1,7 @@
 use borrow.Author.Needs.{needs}
-use Rattle.unit.specs.Crossing.{recordOf}
-use Rattle.unit.proofs.state.record_of.Statement.{statement}
-use Rattle.unit.proofs.state.record_of.Tie as tie
+use Rattle.hosts.specs.Crossing.{recordOf}
+use Rattle.hosts.proofs.record_of.Statement.{statement}
+use Rattle.hosts.proofs.record_of.Tie as tie
 
 until-requires : tie.Need-until-requires
 until-requires c κs = search needs

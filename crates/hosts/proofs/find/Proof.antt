@@ -3,9 +3,9 @@ use mathlib.Core.Path.{sym, _∙_}
 use mathlib.Core.Logic.{⊎-elim}
 use borrow.Author.Needs.{needs}
 use Rattle.peers.proofs.Places.{long}
-use Rattle.unit.proofs.Kept.{Finding, finding-begins, finding-stops, finding-taken, finding-free, finding-ends}
-use Rattle.unit.proofs.records.find.Statement.{statement}
-use Rattle.unit.proofs.records.find.Tie as tie
+use Rattle.hosts.proofs.Kept.{Finding, finding-begins, finding-stops, finding-taken, finding-free, finding-ends}
+use Rattle.hosts.proofs.find.Statement.{statement}
+use Rattle.hosts.proofs.find.Tie as tie
 
 abbrev Inv-loop : tie.InvT-loop
 Inv-loop address reading s free₀ i₀ free i = Finding s address reading free i

@@ -5,16 +5,16 @@ use borrow.Author.Needs.{needs}
 use borrow.Author.Tests.{not-true, not-false}
 use Rattle.peers.proofs.Places.{long}
 use Rattle.peers.proofs.Promised.{taken, puts}
-use Rattle.unit.specs.Crossing.{peerOf}
-use Rattle.unit.proofs.Kept.{is-told, Passing, passing-begins, passing-keeps, passing-stores, passing-ends}
-use Rattle.unit.proofs.records.put.Statement.{statement}
-use Rattle.unit.proofs.records.put.Tie as tie
+use Rattle.hosts.specs.Crossing.{peerOf}
+use Rattle.hosts.proofs.Kept.{is-told, Passing, passing-begins, passing-keeps, passing-stores, passing-ends}
+use Rattle.hosts.proofs.put.Statement.{statement}
+use Rattle.hosts.proofs.put.Tie as tie
 
 abbrev Inv-loop : tie.InvT-loop
-Inv-loop reading s₀ address blank next₀ place₀ s next place = Passing (taken reading address) (peerOf next₀) s₀ next s place
+Inv-loop reading s₀ address blank next₀ k₀ s next k = Passing (taken reading address) (peerOf next₀) s₀ next s k
 
 abbrev μ-loop : tie.MeasureT-loop
-μ-loop reading s₀ address blank next₀ place₀ s next place = 16 - place
+μ-loop reading s₀ address blank next₀ k₀ s next k = 16 - k
 
 vacant-requires : tie.Need-vacant-requires Inv-loop μ-loop
 vacant-requires c κs = search needs
@@ -46,8 +46,8 @@ mul-next c = search needs
 element-set-from-next : tie.Need-element-set-from-next Inv-loop μ-loop
 element-set-from-next c = search needs
 
-add-place : tie.Need-add-place Inv-loop μ-loop
-add-place c = search needs
+add-k : tie.Need-add-k Inv-loop μ-loop
+add-k c = search needs
 
 loop-less : tie.Need-loop-less Inv-loop μ-loop
 loop-less c = search needs
@@ -84,7 +84,7 @@ put-spec =
     is-other-requires
     mul-next
     element-set-from-next
-    add-place
+    add-k
     loop-less
     loop-again
     returns)

@@ -1,0 +1,4 @@
+pub mod Cases
+pub mod Mapping
+pub mod Crossed
+pub mod Kept

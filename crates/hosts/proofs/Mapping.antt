@@ -1,7 +1,7 @@
 -- A pass that stores, place by place, what a function makes of the elements of another array.
 use Prim.Native.Nat.{ℕ, _+_, _≤_, _<_}
 use mathlib.Core.Path.{_≡_, refl, ap, _∙_}
-use mathlib.Core.List.{List, [], _∷_, _++_, map}
+use mathlib.Core.List.{List, [], _∷_, _++_, map, map-append}
 use native.Mathlib.Numerals.{add-one}
 use native.Mathlib.Omega.{arith}
 use lib.ListN.{length, getD, take, set, length-set}
@@ -17,17 +17,13 @@ module _ {A B : Type 0} (f : A → B) where
   pub mapping-begins : (from : List A) (made : List B) → length from ≡ 16 → length made ≡ 16 → Mapping from made 0
   mapping-begins from made a b = record { source = a; places = b; mapped = refl }
 
-  snoc : (xs : List A) (x : A) → map f (xs ++ (x ∷ [])) ≡ map f xs ++ (f x ∷ [])
-  snoc [] x = refl
-  snoc (y ∷ ys) x = ap (λ (l : List B). f y ∷ l) (snoc ys x)
-
   pub mapping-goes : {from : List A} {made : List B} {i : ℕ} (none : A) (v : B) → Mapping from made i → i < 16 → v ≡ f (getD from i none)
       → Mapping from (set made i v) (i + 1)
   mapping-goes {from} {made} {i} none v w h e =
       record {
         source = w .source;
         places = length-set made i v ∙ w .places;
-        mapped = rw (add-one, take-suc-set made i v (omega (arith, w .places)), take-suc from i none (omega (arith, w .source)), snoc, ← e)
+        mapped = rw (add-one, take-suc-set made i v (omega (arith, w .places)), take-suc from i none (omega (arith, w .source)), map-append f (take i from) (getD from i none ∷ []), ← e)
             (ap (λ (l : List B). l ++ (v ∷ [])) (w .mapped));
       }
 

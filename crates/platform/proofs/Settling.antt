@@ -41,7 +41,7 @@ module _ (t : Table) (a : List ℕ) (n : Tu) where
 
   -- a table that stays
   pub settles-none : Settles t a n same t
-  settles-none = record { shown = λ m h b. either (sameOctets a b) (shows t m b); counted = λ m h these. refl }
+  settles-none = settles-same {l = t .latest}
 
   pub settles-gone : {l : Tu} {r : Table} → Drops (dated t l) a r → Settles t a n gone r
   unfolding shows others

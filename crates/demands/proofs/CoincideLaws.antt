@@ -26,7 +26,7 @@ use Rattle.platform.specs.declared.LookUp.{LookUp}
 use Rattle.platform.specs.declared.LookedUp.{LookedUp}
 use Rattle.platform.specs.declared.Removal.{Removal}
 use Rattle.platform.specs.declared.Removed.{Removed}
-use Rattle.platform.specs.Promises.{shownAfter, countedAfter, Settles, isEarly, Dates, Receives, removalNumber, leftByRemoval, Removes, lookNumber, IsShown, LooksUp}
+use Rattle.platform.specs.Promises.{shownAfter, countedAfter, Settles, isEarly, Dates, Receives, removalNumber, leftByRemoval, Removes, lookNumber, IsSeen, LooksUp}
 use Rattle.demands.specs.Coincide.{Match, Reception, SameReception, SameRemoval, MicOutcome, OutcomesCoincide}
 
 -- Tables that match -----------------------------------------------------------------------------------------------------------------------
@@ -175,7 +175,7 @@ module _ (t u : Table) (w : Match t u) (address : List ℕ) (n : Tu) where
   looked-same : (x y : LookedUp) → LooksUp t address n x → LooksUp u address n y → x ≡ y
   looked-same x y a b =
       ap₂ (λ (r : LookUp) (p : Peer). record { answer = r; peer = p }) same-answer
-      (peers (x .answer) (a .number) (a .shown) (subst (IsShown u address n (y .peer)) (sym same-answer) (b .shown)))
+      (peers (x .answer) (a .number) (a .shown) (subst (IsSeen (shows u n address) (y .peer)) (sym same-answer) (b .shown)))
     where
       same-answer : x .answer ≡ y .answer
       same-answer = by-number lookNumber lookBy look-numbered (a .number ∙ number-same (λ own. if isGroupAddress address then 4 else lookOf own) ∙ sym (b .number))
@@ -184,7 +184,7 @@ module _ (t u : Table) (w : Match t u) (address : List ℕ) (n : Tu) where
       fits true c e = shown-same c
       fits false c e = let z : _≡_ {A = ℕ} 18 1 = e ∙ rw c in absurd (omega arith)
 
-      peers : (r : LookUp) → lookNumber r ≡ lookUpOf (t .latest) n address (shows t n address) → IsShown t address n (x .peer) r → IsShown u address n (y .peer) r → x .peer ≡ y .peer
+      peers : (r : LookUp) → lookNumber r ≡ lookUpOf (t .latest) n address (shows t n address) → IsSeen (shows t n address) (x .peer) r → IsSeen (shows u n address) (y .peer) r → x .peer ≡ y .peer
       peers LookUp.ClockOut e p q = p ∙ sym q
       peers LookUp.GroupAddress e p q = p ∙ sym q
       peers LookUp.NoRecord e p q = p ∙ sym q

@@ -20,7 +20,7 @@ use Rattle.platform.specs.declared.LookedUp.{LookedUp}
 use Rattle.platform.specs.declared.Received.{Received}
 use Rattle.platform.specs.declared.Removal.{Removal}
 use Rattle.platform.specs.declared.Removed.{Removed}
-use Rattle.platform.specs.Promises.{Settles, isEarly, Dates, Receives, removalNumber, leftByRemoval, Removes, lookNumber, IsShown, LooksUp}
+use Rattle.platform.specs.Promises.{Settles, isEarly, Dates, Receives, removalNumber, leftByRemoval, Removes, lookNumber, IsSeen, LooksUp}
 use Rattle.platform.proofs.Settling.{settles-none}
 use Rattle.demands.specs.Calls.{Frame, callFor, Ask, receive, remove, lookUp, whose, readingOf, Got, answered, removed, found, given, Allowed, receives, removes, looksUp, Alone, liveAt, outcomeFor, removalFor, lookFor, overwritten, gets, removalLeaves, leaves}
 use Rattle.demands.proofs.Latest.{receive-dated, remove-dated, look-dated}
@@ -64,7 +64,7 @@ module _ (t : Table) (n : Tu) (a : List ℕ) (h : t .latest .0 ≤ n .0) (k : n 
   removal-made Removal.NoRecord = tt
   removal-made Removal.Removed = tt
 
-  look-given : (answer : LookUp) (p : Peer) (number : ℕ) → IsShown t a n p answer → lookNumber answer ≡ number
+  look-given : (answer : LookUp) (p : Peer) (number : ℕ) → IsSeen (shows t n a) p answer → lookNumber answer ≡ number
       → given answer p ≡ (if eqb number 18 then shows t n a else none)
   look-given LookUp.ClockOut p number s e = rw (← e)
   look-given LookUp.GroupAddress p number s e = rw (← e)

@@ -2,7 +2,8 @@
 ghost use mathlib.Core.Path.{_≡_};
 ghost use Rattle.elements.specs.Body.{bodyOf};
 ghost use Rattle.elements.specs.Step.{stepAt};
-ghost use Rattle.elements.specs.Scan.{kindOf, number, plainKind, extendedKind, scanOf};
+ghost use Rattle.elements.specs.Walk.{walk};
+ghost use Rattle.elements.specs.Scan.{kindOf, number, plainKind, extendedKind, scanBy, scanOf};
 ghost use Rattle.elements.specs.declared.Times.the-variants.{More};
 ghost use Rattle.elements.specs.Noting.{seenOf, markOf};
 
@@ -262,15 +263,9 @@ pub enum Scan {
     Walked(Places),
 }
 
-pub fn scan_body(body: &[u8]) -> Scan
-    ensures { λ r. ⌜ r ≡ scanOf (now (body .entry)) ⌝ }
+fn scan_elements(body: &[u8]) -> Scan
+    ensures { λ r. ⌜ r ≡ scanBy (walk (now (body .entry)) 6) ⌝ }
 {
-    if body.len() < HEADER {
-        return Scan::Failed(0);
-    }
-    if LONGEST_BODY < body.len() {
-        return Scan::Failed(0);
-    }
     let mut rsne = Times::None;
     let mut timeout = Times::None;
     let mut mic = Times::None;
@@ -310,4 +305,16 @@ pub fn scan_body(body: &[u8]) -> Scan
             }
         }
     }
+}
+
+pub fn scan_body(body: &[u8]) -> Scan
+    ensures { λ r. ⌜ r ≡ scanOf (now (body .entry)) ⌝ }
+{
+    if body.len() < HEADER {
+        return Scan::Failed(0);
+    }
+    if LONGEST_BODY < body.len() {
+        return Scan::Failed(0);
+    }
+    scan_elements(body)
 }

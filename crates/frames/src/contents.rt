@@ -1,6 +1,5 @@
 // What the elements of a body say, by how often each stands there. Parts are places of the body.
 ghost use mathlib.Core.Path.{_≡_};
-ghost use Prim.Native.Nat.{_≤_};
 ghost use lib.ListN.{length};
 ghost use Rattle.elements.specs.Within.{LiesIf};
 ghost use Rattle.frames.specs.Contents.{isNone, rsneIn, lifetimeIn, offeredIn, isQuiet, isQuietReading};

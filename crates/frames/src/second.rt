@@ -1,6 +1,5 @@
 // The second frame, and the refusal that stands in its place.
-ghost use mathlib.Core.Path.{_≡_};
-ghost use Prim.Native.Nat.{_+_, _≤_, _<_};
+ghost use Prim.Native.Nat.{_≤_};
 ghost use lib.ListN.{length};
 ghost use Rattle.octets.specs.Wrote.{Wrote};
 ghost use Rattle.frames.specs.Second.{Fits, headerOctets, secondOctets};

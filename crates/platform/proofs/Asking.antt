@@ -63,7 +63,7 @@ module _ (latest : Tu) (address : List ℕ) (n : Tu) (own : Option Peer) where
 -- The table's part, by what its search saw.
 module _ (t : Table) (address : List ℕ) (n : Tu) where
   pub looks-up : {found : Found} {peer : Peer} {r : LookedUp} → Sees t address n found peer → LooksBy (t .latest) address n (seen found peer) r → LooksUp t address n r
-  looks-up w g = record { number = rw (w .shown) (g .number); shown = rw (w .shown) (g .shown) }
+  looks-up w g = rw (w .shown) g
 
   module _ (found : Found) (f : Finds t address n found) {answer : Removal} (g : RemovesBy (t .latest) address n (seen found vacantPeer) answer) where
     -- a removal asks only whether there is a record

@@ -116,10 +116,6 @@ pub record LooksBy (latest : Tu) (address : List ℕ) (n : Tu) (own : Option Pee
   pub number : lookNumber (r .answer) ≡ lookUpOf latest n address own
   pub shown : IsSeen own (r .peer) (r .answer)
 
--- the record is the one that the table shows
-abbrev pub IsShown : Table → List ℕ → Tu → Peer → LookUp → Type 0
-IsShown t address n p answer = IsSeen (shows t n address) p answer
-
-pub record LooksUp (t : Table) (address : List ℕ) (n : Tu) (r : LookedUp) : Type 0 where
-  pub number : lookNumber (r .answer) ≡ lookUpOf (t .latest) n address (shows t n address)
-  pub shown : IsShown t address n (r .peer) (r .answer)
+-- A look-up gets what the one-peer rules give, by what the table shows of this address.
+abbrev pub LooksUp : Table → List ℕ → Tu → LookedUp → Type 0
+LooksUp t address n r = LooksBy (t .latest) address n (shows t n address) r

@@ -1,9 +1,10 @@
 -- A look-up tells zeros unless a record is shown.
 use mathlib.Core.Path.{_≡_, refl, ap, _∙_}
+use mathlib.Core.Option.{Option}
 use Rattle.peers.specs.declared.Peer.{Peer}
 use Rattle.peers.specs.View.{vacantPeer}
 use Rattle.platform.specs.declared.LookUp.{LookUp}
-use Rattle.platform.specs.Promises.{IsShown, lookNumber}
+use Rattle.platform.specs.Promises.{IsSeen, lookNumber}
 use Rattle.hosts.specs.Crossing.{recordOf}
 use Rattle.unit.specs.Promises.{zeros, ZerosUnlessShown}
 
@@ -12,12 +13,12 @@ unfolding recordOf
 vacant-zeros = refl
 
 pub zeros-unless-shown : ZerosUnlessShown
-zeros-unless-shown t address n r told other =
-    let o = told .outcome in
-    rw (told .told) (go (o .answer) (o .peer) (λ e. other (rw (told .told) e)) (told .promised .shown))
+zeros-unless-shown s address reading result h other =
+    let o = h .outcome in
+    rw (h .told) (go _ (o .answer) (o .peer) (λ e. other (rw (h .told) e)) (h .looked .shown))
   where
-    go : (answer : LookUp) (p : Peer) → (lookNumber answer ≡ 18 → ⊥) → IsShown t address n p answer → recordOf p ≡ zeros
-    go LookUp.ClockOut p h e = ap recordOf e ∙ vacant-zeros
-    go LookUp.GroupAddress p h e = ap recordOf e ∙ vacant-zeros
-    go LookUp.NoRecord p h e = ap recordOf e ∙ vacant-zeros
-    go LookUp.Shown p h e = absurd (h refl)
+    go : (own : Option Peer) (answer : LookUp) (p : Peer) → (lookNumber answer ≡ 18 → ⊥) → IsSeen own p answer → recordOf p ≡ zeros
+    go own LookUp.ClockOut p h e = ap recordOf e ∙ vacant-zeros
+    go own LookUp.GroupAddress p h e = ap recordOf e ∙ vacant-zeros
+    go own LookUp.NoRecord p h e = ap recordOf e ∙ vacant-zeros
+    go own LookUp.Shown p h e = absurd (h refl)

@@ -77,7 +77,7 @@ module _ (s : State) (address : List ℕ) (reading : ℕ) where
   pub looks-in : {found : Found} {peer : Peer} {r : LookedUp} {result : LookUpResult} → Sees (tableOf s) address (record { 0 = reading }) found peer
       → LooksBy (record { 0 = s .«latest_tu» }) address (record { 0 = reading }) (seen found peer) r → result ≡ lookUpResultOf r → LooksUpIn s address reading result
   unfolding tableOf
-  looks-in {r = r} w g told = record { outcome = r; promised = looks-up (tableOf s) address (record { 0 = reading }) w g; told = told }
+  looks-in {r = r} w g told = record { outcome = r; told = told; looked = looks-up (tableOf s) address (record { 0 = reading }) w g }
 
   module _ (found : Found) (f : Finds (tableOf s) address (record { 0 = reading }) found)
       {answer : Removal} (g : RemovesBy (record { 0 = s .«latest_tu» }) address (record { 0 = reading }) (seen found vacantPeer) answer) where

@@ -5,9 +5,7 @@ use mathlib.Core.Bool.{true}
 use mathlib.Core.List.{List}
 use mathlib.Core.Option.{Option, none, some}
 use lib.ListN.{length, replicate}
-use Rattle.units.specs.declared.Tu.{Tu}
 use Rattle.bodies.specs.Bodies.{keyPart}
-use Rattle.peers.specs.declared.Table.{Table}
 use Rattle.rules.specs.declared.Answer.{Answer}
 use Rattle.rules.specs.declared.Brought.{Brought}
 use Rattle.rules.specs.declared.Settings.{Settings}
@@ -55,12 +53,6 @@ receiveResultOf answer length = record { answer = numberOf answer; status = stat
 abbrev pub lookUpResultOf : LookedUp → LookUpResult
 lookUpResultOf r = record { answer = lookNumber (r .answer); shown = recordOf (r .peer) }
 
--- r tells an outcome that is as promised
-pub record Told {A B : Type 0} (Promised : A → Type 0) (tell : A → B) (r : B) : Type 0 where
-  pub outcome : A
-  pub promised : Promised outcome
-  pub told : r ≡ tell outcome
-
 -- A receive leaves a state and tells a result: the states are tables as the platform promises, and the result is told in numbers.
 -- Beside 1 to 5 the state is the very one that came in.
 pub record ReceivesIn (s : State) (call : HostCall) (cache key mic body before : List ℕ) (s' : State) (result : ReceiveResult) (after : List ℕ) : Type 0 where
@@ -71,8 +63,11 @@ pub record ReceivesIn (s : State) (call : HostCall) (cache key mic body before :
       (record { table = tableOf s'; answer = answer; length = result .length })
   pub early : isEarly (result .answer) ≡ true → s' ≡ s
 
-abbrev pub LooksUpIn : State → (address : List ℕ) (reading : ℕ) → LookUpResult → Type 0
-LooksUpIn s address reading r = Told (LooksUp (tableOf s) address (record { 0 = reading })) lookUpResultOf r
+-- A look-up tells what the platform promises of the table that the state is.
+pub record LooksUpIn (s : State) (address : List ℕ) (reading : ℕ) (result : LookUpResult) : Type 0 where
+  pub outcome : LookedUp
+  pub told : result ≡ lookUpResultOf outcome
+  pub looked : LooksUp (tableOf s) address (record { 0 = reading }) outcome
 
 -- A removal leaves a state and tells an answer, likewise.
 pub record RemovesIn (s : State) (address : List ℕ) (reading : ℕ) (s' : State) (answer : ℕ) : Type 0 where
@@ -102,5 +97,5 @@ zeros = record {
 
 -- Beside an answer other than 18, the record that a look-up tells is zeros.
 abbrev pub ZerosUnlessShown : Type 0
-ZerosUnlessShown = (t : Table) (address : List ℕ) (n : Tu) (r : LookUpResult) → Told (LooksUp t address n) lookUpResultOf r
-    → (r .answer ≡ 18 → ⊥) → r .shown ≡ zeros
+ZerosUnlessShown = (s : State) (address : List ℕ) (reading : ℕ) (result : LookUpResult) → LooksUpIn s address reading result
+    → (result .answer ≡ 18 → ⊥) → result .shown ≡ zeros

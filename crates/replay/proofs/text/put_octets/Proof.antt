@@ -1,4 +1,3 @@
-use Rattle.io.proofs.Counting.{front}
 use Prim.Native.Nat.{_-_}
 use borrow.Author.Needs.{needs}
 use lib.ListN.{length}
@@ -12,7 +11,7 @@ abbrev μ-loop : tie.MeasureT-loop
 μ-loop s at₀ at = length s - at
 
 slice-aggregate-put : tie.Need-slice-aggregate-put Inv-loop μ-loop
-slice-aggregate-put c = search (needs, front)
+slice-aggregate-put c = search needs
 
 put-requires : tie.Need-put-requires Inv-loop μ-loop
 put-requires c κs = search needs
@@ -33,7 +32,7 @@ part-spell-end : tie.Need-part-spell-end Inv-loop μ-loop
 part-spell-end c = search needs
 
 slice-aggregate-spell : tie.Need-slice-aggregate-spell Inv-loop μ-loop
-slice-aggregate-spell c = search (needs, front)
+slice-aggregate-spell c = search needs
 
 spell-requires : tie.Need-spell-requires Inv-loop μ-loop
 spell-requires c κs = search needs
@@ -42,7 +41,7 @@ array-share-prefix-digits : tie.Need-array-share-prefix-digits Inv-loop μ-loop
 array-share-prefix-digits c = search needs
 
 slice-aggregate-put-2 : tie.Need-slice-aggregate-put-2 Inv-loop μ-loop
-slice-aggregate-put-2 c = search (needs, front)
+slice-aggregate-put-2 c = search needs
 
 put-requires-2 : tie.Need-put-requires-2 Inv-loop μ-loop
 put-requires-2 c κs = search needs

@@ -31,12 +31,10 @@ static void look_up(const galebeacon_state *state, uint64_t reading_tu, unsigned
 
 /* The first frame is answered by the second. No MIC is lent with it: a slice of no octets still has a pointer. */
 static void first(galebeacon_state *state, uint8_t *reply, size_t reply_length) {
-    uint8_t own_key[33], mic[GALEBEACON_MIC];
+    uint8_t mic[GALEBEACON_MIC];
     galebeacon_receive_result r;
     galebeacon_key_place key = galebeacon_show_key(first_frame, sizeof first_frame);
     printf("the key begins at %lu and has %lu octets\n", (unsigned long)key.start, (unsigned long)key.length);
-    memset(own_key, 0x77, sizeof own_key);
-    own_key[0] = 3;
     memset(mic, 0xbb, sizeof mic);
     r = galebeacon_receive(state, call_at(5000, 1), cache, sizeof cache, own_key, sizeof own_key, mic, 0,
                            first_frame, sizeof first_frame, reply, reply_length);
@@ -46,11 +44,10 @@ static void first(galebeacon_state *state, uint8_t *reply, size_t reply_length) 
 }
 
 static void third(galebeacon_state *state, uint64_t reading_tu, uint8_t *reply, size_t reply_length, unsigned wanted) {
-    uint8_t input[sizeof third_frame], mic[GALEBEACON_MIC];
+    uint8_t input[sizeof third_frame]; /* what the chip would make third_mic of */
     galebeacon_receive_result r;
     expect("zero the third frame's MIC", galebeacon_zero_mic(third_frame, sizeof third_frame, input, sizeof input), GALEBEACON_MIC_DONE);
-    memset(mic, 0xaa, sizeof mic); /* what the chip makes of `input` */
-    r = galebeacon_receive(state, call_at(reading_tu, 0), cache, sizeof cache, mic, 0, mic, sizeof mic,
+    r = galebeacon_receive(state, call_at(reading_tu, 0), cache, sizeof cache, own_key, 0, third_mic, sizeof third_mic,
                            third_frame, sizeof third_frame, reply, reply_length);
     expect("receive the third frame", r.answer, wanted);
 }

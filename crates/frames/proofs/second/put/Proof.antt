@@ -13,7 +13,7 @@ use borrow.Author.Needs.{needs}
 use Rattle.frames.proofs.second.put.Statement.{statement}
 use Rattle.frames.proofs.second.put.Tie as tie
 
--- After each writer: what was written before it, how many octets it told, and the room for the next one.
+-- After each writer: how many octets it told, and the room for the next one.
 abbrev start : tie.After-put-header → tie.Start
 start c = c .before .before .before .before .before .before
 

@@ -5,8 +5,11 @@ use mathlib.Core.List.{List, [], _∷_}
 use Prim.Native.Nat.{ℕ, zero, suc, _+_, _<_}
 use native.Mathlib.Omega.{arith}
 use lib.ListN.{length}
-use Rattle.cache.specs.File.{Read, Stands, End, Ill, readAt, Cached, cachedAt, Cache, records, illFormed, _before_, onward, cacheFrom, cacheOf, wellFormed, recordsIn, isWellFormed, recordsOf}
-use Rattle.cache.proofs.Records.{stood, ended}
+use Rattle.cache.specs.declared.Record.{Record}
+use Rattle.cache.specs.declared.Read.{Read}
+use Rattle.cache.specs.declared.Read.the-variants.{Stands, End, Ill}
+use Rattle.cache.specs.File.{readAt, stands, Cached, cachedAt, Cache, records, illFormed, _before_, onward, cacheFrom, cacheOf, wellFormed, recordsIn, isWellFormed, recordsOf}
+use Rattle.cache.proofs.Records.{ended}
 
 -- what follows a record, where so many may come, that record among them
 abbrev later : ℕ → List ℕ → ℕ → Cache
@@ -32,15 +35,15 @@ module _ (more : ℕ) (file : List ℕ) (at : ℕ) where
   pub well-ill : readAt file at ≡ Ill → wellFormed (cacheFrom more file at) ≡ false
   well-ill q = ap wellFormed (from-by q)
 
-  module _ {value next : ℕ} (q : readAt file at ≡ Stands value next) where
-    well-later : wellFormed (cacheFrom more file at) ≡ wellFormed (later more file next)
-    well-later = ap wellFormed (from-by q) ∙ before-well (cachedAt file value) (later more file next)
+  module _ {r : Record} (q : readAt file at ≡ Stands r) where
+    well-later : wellFormed (cacheFrom more file at) ≡ wellFormed (later more file (r .next))
+    well-later = ap wellFormed (from-by q) ∙ before-well (cachedAt file (r .value)) (later more file (r .next))
 
     pub well-full : more ≡ 0 → wellFormed (cacheFrom more file at) ≡ false
-    well-full e = well-later ∙ ap (λ (m : ℕ). wellFormed (later m file next)) e
+    well-full e = well-later ∙ ap (λ (m : ℕ). wellFormed (later m file (r .next))) e
 
-    pub well-record : {m : ℕ} → more ≡ suc m → wellFormed (cacheFrom more file at) ≡ wellFormed (cacheFrom m file next)
-    well-record e = well-later ∙ ap (λ (m : ℕ). wellFormed (later m file next)) e
+    pub well-record : {m : ℕ} → more ≡ suc m → wellFormed (cacheFrom more file at) ≡ wellFormed (cacheFrom m file (r .next))
+    well-record e = well-later ∙ ap (λ (m : ℕ). wellFormed (later m file (r .next))) e
 
 records-same : {cs ds : List Cached} → records cs ≡ records ds → ds ≡ cs
 records-same e = cc
@@ -62,10 +65,10 @@ from-start file h = record { more = 64; are = go (cacheFrom 64 file 0) h }
     go illFormed e = absurd (false≢true e)
 
 -- a record, and those from the next place on
-pub record Then (file : List ℕ) (value next : ℕ) (cs : List Cached) : Type 0 where
+pub record Then (file : List ℕ) (r : Record) (cs : List Cached) : Type 0 where
   pub rest : List Cached
-  pub are : cs ≡ cachedAt file value ∷ rest
-  pub from : From file next rest
+  pub are : cs ≡ cachedAt file (r .value) ∷ rest
+  pub from : From file (r .next) rest
 
 module _ {file : List ℕ} {at : ℕ} {cs : List Cached} (g : From file at cs) where
   pub none-left : readAt file at ≡ End → cs ≡ []
@@ -75,21 +78,21 @@ module _ {file : List ℕ} {at : ℕ} {cs : List Cached} (g : From file at cs) w
   not-ill q = ill-records (sym (from-by (g .more) file at q) ∙ g .are)
 
   -- where octets are left, a record stands
-  pub still-stands : at < length file → readAt file at ≡ Stands (at + 3) (at + 28)
+  pub still-stands : at < length file → stands (readAt file at) ≡ true
   still-stands h = go (readAt file at) refl
     where
-      go : (r : Read) → readAt file at ≡ r → r ≡ Stands (at + 3) (at + 28)
-      go (Stands v n) q = let s = stood file at q in rw (s .next, s .value)
+      go : (w : Read) → readAt file at ≡ w → stands w ≡ true
+      go (Stands r) q = refl
       go End q = absurd (omega (arith, ended file at q))
       go Ill q = absurd (not-ill q)
 
-  pub one-left : {value next : ℕ} → readAt file at ≡ Stands value next → Then file value next cs
-  one-left {value} {next} q = go (g .more) (sym (from-by (g .more) file at q) ∙ g .are)
+  pub one-left : {r : Record} → readAt file at ≡ Stands r → Then file r cs
+  one-left {r} q = go (g .more) (sym (from-by (g .more) file at q) ∙ g .are)
     where
-      by : (m : ℕ) (w : Cache) → cacheFrom m file next ≡ w → cachedAt file value before w ≡ records cs → Then file value next cs
+      by : (m : ℕ) (w : Cache) → cacheFrom m file (r .next) ≡ w → cachedAt file (r .value) before w ≡ records cs → Then file r cs
       by m (records ds) e h = record { rest = ds; are = records-same h; from = record { more = m; are = e } }
       by m illFormed e h = absurd (ill-records h)
 
-      go : (m : ℕ) → cachedAt file value before later m file next ≡ records cs → Then file value next cs
+      go : (m : ℕ) → cachedAt file (r .value) before later m file (r .next) ≡ records cs → Then file r cs
       go zero h = absurd (ill-records h)
-      go (suc m) h = by m (cacheFrom m file next) refl h
+      go (suc m) h = by m (cacheFrom m file (r .next)) refl h

@@ -18,9 +18,11 @@ use Rattle.octets.proofs.Logic.{both}
 use Rattle.octets.proofs.Numbers.{le-bound}
 use Rattle.units.specs.declared.Tu.{Tu}
 use Rattle.cache.specs.declared.Choice.{Choice}
-use Rattle.cache.specs.File.{Read, Stands, End, Ill, readAt, Cached, cachedAt, Cache, records, illFormed, cacheFrom, cacheOf, recordsIn, recordsOf}
+use Rattle.cache.specs.declared.Read.{Read}
+use Rattle.cache.specs.declared.Read.the-variants.{Stands, End, Ill}
+use Rattle.cache.specs.File.{readAt, Cached, cachedAt, Cache, records, illFormed, cacheFrom, cacheOf, recordsIn, recordsOf}
 use Rattle.cache.specs.Search.{matches, foundOf, choiceFrom, choiceOf}
-use Rattle.cache.proofs.Records.{stood}
+use Rattle.cache.proofs.Records.{within}
 use Rattle.cache.proofs.File.{From, none-left, not-ill, one-left}
 
 -- What was found: it stands in the list, by its place, with that PMKID, the same AKM and an end later than the reading.
@@ -126,13 +128,12 @@ parted : (file : List ℕ) (at : ℕ) {c : Cached} {cs : List Cached} → From f
 parted file at {c} {cs} g = go (readAt file at) refl
   where
     go : (r : Read) → readAt file at ≡ r → Parted file c cs
-    go (Stands v n) q =
+    go (Stands r) q =
         let t = one-left g q in
-        let s = stood file at q in
         record {
-          lies = record { value = v; within = omega arith; is = head-same (t .are) };
-          next = n;
-          from = subst (From file n) (tail-same (t .are)) (t .from);
+          lies = record { value = r .value; within = within file at q .value; is = head-same (t .are) };
+          next = r .next;
+          from = subst (From file (r .next)) (tail-same (t .are)) (t .from);
         }
     go End q = absurd (none-one (none-left g q))
     go Ill q = absurd (not-ill g q)

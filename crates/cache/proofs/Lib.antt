@@ -1,6 +1,6 @@
 pub mod Cases
 pub mod Records
 pub mod File
-pub mod Whole
+pub mod Check
 pub mod Search
 pub mod Laws

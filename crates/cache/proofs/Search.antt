@@ -15,11 +15,13 @@ use Rattle.octets.specs.Search.{first, entry}
 use Rattle.octets.specs.Pieces.{pieces}
 use Rattle.octets.proofs.Pieces.{length-pieces, piece-at}
 use Rattle.units.specs.declared.Tu.{Tu}
-use Rattle.cache.specs.declared.Found.{Found}
+use Rattle.cache.specs.declared.Match.{Match}
 use Rattle.cache.specs.declared.Choice.{Choice}
-use Rattle.cache.specs.File.{Cached, cachedAt, isWellFormed, recordsOf}
+use Rattle.cache.specs.declared.Record.{Record}
+use Rattle.cache.specs.declared.Read.the-variants.{Stands}
+use Rattle.cache.specs.File.{readAt, stands, Cached, cachedAt, isWellFormed, recordsOf}
 use Rattle.cache.specs.Search.{matches, foundOf, told, choiceFrom, choiceOf}
-use Rattle.cache.proofs.Records.{read-end, stood}
+use Rattle.cache.proofs.Records.{read-end, Within, within}
 use Rattle.cache.proofs.File.{From, from-start, none-left, still-stands, one-left}
 
 -- The tests of the record whose value starts at a place. Its PMKID is the part of the file up to its AKM.
@@ -51,19 +53,23 @@ module _ {f : Cached → Bool} {file : List ℕ} {at : ℕ} (g : Searched f file
   unfolding first
   searched-all h = g .so-far ∙ ap (first f) (none-left (g .from) (read-end file at h))
 
-  module _ (h : at < length file) where
-    pub searched-fits : at + 28 ≤ length file
-    searched-fits = stood file at (still-stands (g .from) h) .within
+  pub searched-stands : at < length file → stands (readAt file at) ≡ true
+  searched-stands h = still-stands (g .from) h
 
-    pub searched-stops : f (cachedAt file (at + 3)) ≡ true → first f (recordsOf file) ≡ some (cachedAt file (at + 3))
-    unfolding first
-    searched-stops e = g .so-far ∙ ap (first f) (one-left (g .from) (still-stands (g .from) h) .are) ∙ rw e
+  module _ {r : Record} (q : readAt file at ≡ Stands r) where
+    pub searched-goes : Within file at r
+    searched-goes = within file at q
 
-    pub searched-more : f (cachedAt file (at + 3)) ≡ false → Searched f file (at + 28)
-    unfolding first
-    searched-more e =
-        let t = one-left (g .from) (still-stands (g .from) h) in
-        record { left = t .rest; from = t .from; so-far = g .so-far ∙ ap (first f) (t .are) ∙ rw e }
+    module _ {found : Bool} (m : found ≡ f (cachedAt file (r .value))) where
+      pub searched-stops : found ≡ true → first f (recordsOf file) ≡ some (cachedAt file (r .value))
+      unfolding first
+      searched-stops e = g .so-far ∙ ap (first f) (one-left (g .from) q .are) ∙ rw (sym m ∙ e)
+
+      pub searched-more : found ≡ false → Searched f file (r .next)
+      unfolding first
+      searched-more e =
+          let t = one-left (g .from) q in
+          record { left = t .rest; from = t .from; so-far = g .so-far ∙ ap (first f) (t .are) ∙ rw (sym m ∙ e) }
 
 -- How far the search of the list has come, which is `count` PMKIDs in the octets s: none before number k has a record that matches.
 pub record Tried (cs : List Cached) (s : List ℕ) (count akm : ℕ) (reading : Tu) (k : ℕ) : Type 0 where
@@ -78,15 +84,15 @@ tried-none cs s count akm reading = record { within = omega arith; so-far = refl
 abbrev pub asked : List Cached → List ℕ → ℕ → Tu → ℕ → Option Cached
 asked cs s akm reading k = foundOf cs (take (16 * k + 16 - 16 * k) (drop (16 * k) s)) akm reading
 
-nothing-until : {t : Tu} → Found.Nothing ≡ Found.Until t → ⊥
+nothing-until : {t : Tu} → Match.Nothing ≡ Match.Until t → ⊥
 nothing-until e = let z : _≡_ {A = ℕ} 0 1 = cc in omega arith
 
 module _ (k : ℕ) (rest : Choice) where
-  at-found : (o : Option Cached) {end : Tu} → told o ≡ Found.Until end → entry (λ c. Choice.Chosen k (record { 0 = c .end })) rest o ≡ Choice.Chosen k end
+  at-found : (o : Option Cached) {end : Tu} → told o ≡ Match.Until end → entry (λ c. Choice.Chosen k (record { 0 = c .end })) rest o ≡ Choice.Chosen k end
   at-found none e = absurd (nothing-until e)
   at-found (some c) e = cc
 
-  at-nothing : (o : Option Cached) → told o ≡ Found.Nothing → entry (λ c. Choice.Chosen k (record { 0 = c .end })) rest o ≡ rest
+  at-nothing : (o : Option Cached) → told o ≡ Match.Nothing → entry (λ c. Choice.Chosen k (record { 0 = c .end })) rest o ≡ rest
   at-nothing none e = refl
   at-nothing (some c) e = absurd (nothing-until (sym e))
 
@@ -99,10 +105,10 @@ module _ {cs : List Cached} {s : List ℕ} {count akm : ℕ} {reading : Tu} {k :
         let n : 16 * k + 16 - 16 * k ≡ 16 = omega arith in
         g .so-far ∙ rw (n, ← piece-at 16 count s k h, drop-cons (pieces 16 count s) k [] (omega (arith, length-pieces 16 count s)), add-one k)
 
-    pub tried-stops : {end : Tu} → told (asked cs s akm reading k) ≡ Found.Until end → choiceOf cs (pieces 16 count s) akm reading ≡ Choice.Chosen k end
+    pub tried-stops : {end : Tu} → told (asked cs s akm reading k) ≡ Match.Until end → choiceOf cs (pieces 16 count s) akm reading ≡ Choice.Chosen k end
     tried-stops e = choice-at ∙ at-found k _ (asked cs s akm reading k) e
 
-    pub tried-more : told (asked cs s akm reading k) ≡ Found.Nothing → Tried cs s count akm reading (k + 1)
+    pub tried-more : told (asked cs s akm reading k) ≡ Match.Nothing → Tried cs s count akm reading (k + 1)
     tried-more e = record { within = omega arith; so-far = choice-at ∙ at-nothing k _ (asked cs s akm reading k) e }
 
   pub tried-all : count ≤ k → choiceOf cs (pieces 16 count s) akm reading ≡ Choice.Nothing

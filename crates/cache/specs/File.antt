@@ -6,23 +6,24 @@ use lib.Dec.{leb, eqb}
 use lib.ListN.{length, getD, take, drop}
 use Rattle.octets.specs.Choice.{if_then_else_}
 use Rattle.octets.specs.Numbers.{le}
+use Rattle.cache.specs.declared.Read.{Read}
+use Rattle.cache.specs.declared.Read.the-variants.{Stands, End, Ill}
 
--- What stands at a place. Of a record: where its value starts, and the place after it.
-pub data Read : Type 0 where
-  Stands : (value next : ℕ) → Read
-  End : Read
-  Ill : Read
+-- a whole record with a tag and a length of its value stands at a place
+abbrev pub isRecord : ℕ → ℕ → List ℕ → ℕ → Bool
+isRecord tag long file at = leb (3 + long) (length file - at) && (eqb (getD file at 0) tag && eqb (le 2 file (at + 1)) long)
 
--- a record's tag and length stand at a place
-abbrev pub isRecord : List ℕ → ℕ → Bool
-isRecord file at = eqb (getD file at 0) 0x31 && eqb (le 2 file (at + 1)) 25
-
--- the end, or a whole record of tag 31 hex and length 25, or something ill-formed
+-- What stands at a place: the end, or a record of tag 31 hex and length 25, or something ill-formed. Of a record: where its value starts, and the place after it.
 abbrev pub readAt : List ℕ → ℕ → Read
 readAt file at =
     if leb (length file) at then End
-    else if leb 28 (length file - at) && isRecord file at then Stands (at + 3) (at + 28)
+    else if isRecord 0x31 25 file at then Stands (record { value = at + 3; next = at + 28 })
     else Ill
+
+abbrev pub stands : Read → Bool
+stands (Stands r) = true
+stands End = false
+stands Ill = false
 
 -- what a record holds
 pub record Cached : Type 0 where
@@ -47,7 +48,7 @@ c before illFormed = illFormed
 
 -- the file from a place on, by what stands there; `go` is the file from a later place
 abbrev pub onward : (ℕ → Cache) → List ℕ → Read → Cache
-onward go file (Stands value next) = cachedAt file value before go next
+onward go file (Stands r) = cachedAt file (r .value) before go (r .next)
 onward go file End = records []
 onward go file Ill = illFormed
 

@@ -7,7 +7,7 @@ use lib.Dec.{ltb, eqb}
 use Rattle.octets.specs.Equality.{sameOctets}
 use Rattle.octets.specs.Search.{first, entry}
 use Rattle.units.specs.declared.Tu.{Tu}
-use Rattle.cache.specs.declared.Found.{Found}
+use Rattle.cache.specs.declared.Match.{Match}
 use Rattle.cache.specs.declared.Choice.{Choice}
 use Rattle.cache.specs.File.{Cached}
 
@@ -32,5 +32,5 @@ unfolding choiceFrom
 choiceOf cs pmkids akm reading = choiceFrom 0 cs pmkids akm reading
 
 -- the end of what was found, as the code tells it
-abbrev pub told : Option Cached → Found
-told = entry (λ c. Found.Until (record { 0 = c .end })) Found.Nothing
+abbrev pub told : Option Cached → Match
+told = entry (λ c. Match.Until (record { 0 = c .end })) Match.Nothing

@@ -4,7 +4,8 @@ ghost use mathlib.Core.Bool.{true};
 ghost use Prim.Native.Nat.{_+_, _/_, _≤_};
 ghost use lib.ListN.{length};
 ghost use Rattle.octets.specs.Pieces.{pieces};
-ghost use Rattle.cache.specs.File.{isRecord, cachedAt, isWellFormed, recordsOf};
+ghost use Rattle.cache.specs.declared.Read.the-variants.{Stands};
+ghost use Rattle.cache.specs.File.{stands, readAt, cachedAt, isWellFormed, recordsOf};
 ghost use Rattle.cache.specs.Search.{matches, foundOf, told, choiceOf};
 use units::Tu;
 
@@ -20,35 +21,72 @@ const MOST_RECORDS: usize = 64;
 // The octets of a PMKID, which a value begins with.
 const PMKID: usize = 16;
 
-// Whether a record stands at a place, where its octets lie within the file.
-fn is_record(file: &[u8], at: usize) -> bool
-    requires { ⌜ at + 28 ≤ length (now file) ⌝ }
-    ensures { λ r. ⌜ r ≡ isRecord (now (file .entry)) at ⌝ }
-{
-    if file[at] != TAG {
-        return false;
-    }
-    octets::le2(file, at + 1) == LENGTH
+// Of a record of the file: where its value starts, and the place after it.
+struct Record {
+    value: usize,
+    next: usize,
 }
 
-// The whole length is tested first, so that each record is told by its tag and length alone.
+// What stands at a place of the file.
+enum Read {
+    Stands(Record),
+    End,
+    Ill,
+}
+
+// The record at a place where one stands. Every walk of the file steps by this.
+fn record_at(file: &[u8], at: usize) -> Record
+    requires { ⌜ stands (readAt (now file) at) ≡ true ⌝ }
+    ensures { λ r. ⌜ readAt (now (file .entry)) at ≡ Stands r ⌝ }
+{
+    Record {
+        value: at + 3,
+        next: at + RECORD,
+    }
+}
+
+// The end and a tail are found by one test.
+fn read_at(file: &[u8], at: usize) -> Read
+    requires { ⌜ at ≤ length (now file) ⌝ }
+    ensures { λ r. ⌜ r ≡ readAt (now (file .entry)) at ⌝ }
+{
+    let left = file.len() - at;
+    if left < RECORD {
+        if left == 0 {
+            return Read::End;
+        }
+        return Read::Ill;
+    }
+    if file[at] != TAG {
+        return Read::Ill;
+    }
+    if octets::le2(file, at + 1) != LENGTH {
+        return Read::Ill;
+    }
+    Read::Stands(record_at(file, at))
+}
+
+// The records are counted, and their number is judged at the end: a test at each record would slow the walk down.
 pub fn is_well_formed(file: &[u8]) -> bool
     ensures { λ r. ⌜ r ≡ isWellFormed (now (file .entry)) ⌝ }
 {
-    if MOST_RECORDS * RECORD < file.len() {
-        return false;
-    }
-    if file.len() % RECORD != 0 {
-        return false;
-    }
     let mut at = 0;
-    while at < file.len() {
-        if !is_record(file, at) {
-            return false;
+    let mut count = 0;
+    loop {
+        let read = read_at(file, at);
+        match read {
+            Read::Stands(record) => {
+                at = record.next;
+                count += 1;
+            }
+            Read::End => {
+                return count <= MOST_RECORDS;
+            }
+            Read::Ill => {
+                return false;
+            }
         }
-        at += RECORD;
     }
-    true
 }
 
 // The end of the record whose value starts at a place: it stands behind PMKID and AKM type.
@@ -77,24 +115,25 @@ fn matches(file: &[u8], value: usize, pmkid: &[u8], akm: u8, reading: Tu) -> boo
 }
 
 // The end of a PMKID's first record that matches, or nothing.
-enum Found {
+enum Match {
     Until(Tu),
     Nothing,
 }
 
-fn find(file: &[u8], pmkid: &[u8], akm: u8, reading: Tu) -> Found
+fn find(file: &[u8], pmkid: &[u8], akm: u8, reading: Tu) -> Match
     requires { ⌜ isWellFormed (now file) ≡ true ⌝ }
     ensures { λ r. ⌜ r ≡ told (foundOf (recordsOf (now (file .entry))) (now (pmkid .entry)) akm reading) ⌝ }
 {
     let mut at = 0;
     while at < file.len() {
-        let value = at + 3;
+        let record = record_at(file, at);
+        let value = record.value;
         if matches(file, value, pmkid, akm, reading) {
-            return Found::Until(end_at(file, value));
+            return Match::Until(end_at(file, value));
         }
-        at += RECORD;
+        at = record.next;
     }
-    Found::Nothing
+    Match::Nothing
 }
 
 // The first PMKID of a list that has such a record, by its number in the list counted from 0, and the record's end; or nothing.
@@ -115,10 +154,10 @@ pub fn choose(file: &[u8], pmkids: &[u8], akm: u8, reading: Tu) -> Choice
         let after = start + PMKID;
         let found = find(file, &pmkids[start..after], akm, reading);
         match found {
-            Found::Until(end) => {
+            Match::Until(end) => {
                 return Choice::Chosen { pmkid: k, end: end };
             }
-            Found::Nothing => {
+            Match::Nothing => {
                 k += 1;
             }
         }

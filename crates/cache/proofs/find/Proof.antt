@@ -3,9 +3,9 @@ use Prim.Native.Nat.{ℕ, _-_}
 use native.Mathlib.Omega.{arith}
 use borrow.Author.Needs.{needs}
 use lib.ListN.{length}
-use Rattle.cache.specs.declared.Found.{Found}
+use Rattle.cache.specs.declared.Match.{Match}
 use Rattle.cache.specs.Search.{matches, told, foundOf}
-use Rattle.cache.proofs.Search.{Searched, searched-none, searched-all, searched-fits, searched-stops, searched-more}
+use Rattle.cache.proofs.Search.{Searched, searched-none, searched-all, searched-stands, searched-goes, searched-stops, searched-more}
 use Rattle.cache.proofs.find.Statement.{statement}
 use Rattle.cache.proofs.find.Tie as tie
 
@@ -18,33 +18,33 @@ abbrev μ-loop : tie.MeasureT-loop
 loop-holds : tie.Need-loop-holds Inv-loop μ-loop
 loop-holds c = searched-none _ _ (c .before .before .pre)
 
-add-value : tie.Need-add-value Inv-loop μ-loop
-add-value c = omega (arith, searched-fits (c .before .loop .inv) (c .loop-test .taken))
+record-at-requires : tie.Need-record-at-requires Inv-loop μ-loop
+record-at-requires c κs = searched-stands (c .before .loop .inv) (c .loop-test .taken)
 
 matches-requires : tie.Need-matches-requires Inv-loop μ-loop
-matches-requires c κs = omega (arith, searched-fits (c .before .loop .inv) (c .loop-test .taken))
+matches-requires c κs = searched-goes (c .before .before .loop .inv) (c .record-at .ensures) .value
 
 end-at-requires : tie.Need-end-at-requires Inv-loop μ-loop
-end-at-requires c κs = let p = c .before .before in omega (arith, searched-fits (p .before .loop .inv) (p .loop-test .taken))
+end-at-requires c κs = let p = c .before .before in searched-goes (p .before .before .loop .inv) (p .record-at .ensures) .value
 
 returns : tie.Need-returns Inv-loop μ-loop
 unfolding foundOf
 returns c =
     let m = c .before .before in
     let p = m .before in
-    sym (ap told (searched-stops (p .before .loop .inv) (p .loop-test .taken) (sym (m .matches .ensures) ∙ c .before .if1 .taken))
-    ∙ ap (λ (n : ℕ). Found.Until (record { 0 = n })) (sym (c .end-at .ensures)))
-
-add-at : tie.Need-add-at Inv-loop μ-loop
-add-at c = let p = c .before .before in omega (arith, searched-fits (p .before .loop .inv) (p .loop-test .taken))
+    sym (ap told (searched-stops (p .before .before .loop .inv) (p .record-at .ensures) (m .matches .ensures) (c .before .if1 .taken))
+    ∙ ap (λ (n : ℕ). Match.Until (record { 0 = n })) (sym (c .end-at .ensures)))
 
 loop-less : tie.Need-loop-less Inv-loop μ-loop
-loop-less c = search needs
+loop-less c =
+    let p = c .before .before in
+    let w = searched-goes (p .before .before .loop .inv) (p .record-at .ensures) in
+    omega (arith, w .ahead, w .next)
 
 loop-again : tie.Need-loop-again Inv-loop μ-loop
 loop-again c =
     let p = c .before .before in
-    searched-more (p .before .loop .inv) (p .loop-test .taken) (sym (c .before .matches .ensures) ∙ c .if1 .left)
+    searched-more (p .before .before .loop .inv) (p .record-at .ensures) (c .before .matches .ensures) (c .if1 .left)
 
 returns-2 : tie.Need-returns-2 Inv-loop μ-loop
 unfolding foundOf
@@ -57,11 +57,10 @@ find-spec =
     Inv-loop
     μ-loop
     loop-holds
-    add-value
+    record-at-requires
     matches-requires
     end-at-requires
     returns
-    add-at
     loop-less
     loop-again
     returns-2)

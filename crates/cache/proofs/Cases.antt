@@ -6,14 +6,19 @@ use Prim.Native.Nat.{ℕ, zero, suc}
 use lib.ListN.{length, replicate}
 use Rattle.octets.specs.Numbers.{le, octets}
 use Rattle.cache.specs.declared.Choice.{Choice}
-use Rattle.cache.specs.File.{records, cacheOf, isWellFormed, recordsOf}
+use Rattle.cache.specs.File.{Cached, records, cacheOf, isWellFormed, recordsOf}
 use Rattle.cache.specs.Search.{choiceOf}
+use Rattle.cache.specs.Written.{cacheOctets}
 
 -- a PMKID of sixteen equal octets
 abbrev id : ℕ → List ℕ
 id b = replicate 16 b
 
--- a record of such a PMKID, with a tag and a length
+-- a record of such a PMKID
+abbrev of : ℕ → ℕ → ℕ → Cached
+of b akm end = record { pmkid = id b; akm = akm; end = end }
+
+-- such a record in octets, with a tag and a length
 abbrev tagged : ℕ → ℕ → ℕ → ℕ → ℕ → List ℕ
 tagged tag long b akm end = tag ∷ (octets 2 long ++ (id b ++ (akm ∷ octets 8 end)))
 
@@ -28,7 +33,7 @@ pub empty : isWellFormed [] ≡ true
 unfolding isWellFormed
 empty = refl
 
-pub one-record : cacheOf (one 7 6 0x0102030405060708) ≡ records (record { pmkid = id 7; akm = 6; end = 0x0102030405060708 } ∷ [])
+pub one-record : cacheOf (one 7 6 0x0102030405060708) ≡ records (of 7 6 0x0102030405060708 ∷ [])
 unfolding cacheOf le octets
 one-record = refl
 
@@ -60,6 +65,15 @@ sixty-four = refl
 pub sixty-five : isWellFormed (copies 65 (one 7 6 100)) ≡ false
 unfolding isWellFormed le octets
 sixty-five = refl
+
+pub one-written : cacheOctets (of 7 6 0x0102030405060708 ∷ [])
+    ≡ 0x31 ∷ 25 ∷ 0 ∷ (id 7 ++ (6 ∷ 0x08 ∷ 0x07 ∷ 0x06 ∷ 0x05 ∷ 0x04 ∷ 0x03 ∷ 0x02 ∷ 0x01 ∷ []))
+unfolding cacheOctets octets
+one-written = refl
+
+pub two-written : cacheOctets (of 7 6 100 ∷ of 9 8 200 ∷ []) ≡ one 7 6 100 ++ one 9 8 200
+unfolding cacheOctets octets
+two-written = refl
 
 -- what a list of PMKIDs is answered, by a file, for an AKM and a reading
 abbrev asked : List ℕ → List (List ℕ) → ℕ → ℕ → Choice

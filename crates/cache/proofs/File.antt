@@ -1,8 +1,8 @@
 -- Laws of the file from a place on, by what stands there.
-use mathlib.Core.Path.{_≡_, refl, sym, ap, _∙_}
+use mathlib.Core.Path.{_≡_, refl, sym, ap, _∙_, subst}
 use mathlib.Core.Bool.{true, false, false≢true}
 use mathlib.Core.List.{List, [], _∷_}
-use Prim.Native.Nat.{ℕ, zero, suc, _+_, _<_}
+use Prim.Native.Nat.{ℕ, zero, suc, _<_}
 use native.Mathlib.Omega.{arith}
 use lib.ListN.{length}
 use Rattle.cache.specs.declared.Record.{Record}
@@ -12,7 +12,7 @@ use Rattle.cache.specs.File.{readAt, stands, Cached, cachedAt, Cache, re
 use Rattle.cache.proofs.Records.{ended}
 
 -- what follows a record, where so many may come, that record among them
-abbrev later : ℕ → List ℕ → ℕ → Cache
+abbrev pub later : ℕ → List ℕ → ℕ → Cache
 later zero file next = illFormed
 later (suc more) file next = cacheFrom more file next
 
@@ -21,7 +21,7 @@ before-well c (records cs) = refl
 before-well c illFormed = refl
 
 module _ (more : ℕ) (file : List ℕ) (at : ℕ) where
-  from-by : {r : Read} → readAt file at ≡ r → cacheFrom more file at ≡ onward (later more file) file r
+  pub from-by : {r : Read} → readAt file at ≡ r → cacheFrom more file at ≡ onward (later more file) file r
   unfolding cacheFrom
   from-by {r} q = go more
     where
@@ -96,3 +96,25 @@ module _ {file : List ℕ} {at : ℕ} {cs : List Cached} (g : From file at cs) w
       go : (m : ℕ) → cachedAt file (r .value) before later m file (r .next) ≡ records cs → Then file r cs
       go zero h = absurd (ill-records h)
       go (suc m) h = by m (cacheFrom m file (r .next)) refl h
+
+-- What holds at the end, and in front of a record where it holds behind it, holds of every file that reads well.
+module _ (file : List ℕ) (P : ℕ → ℕ → List Cached → Type 0)
+    (ends : (more at : ℕ) → readAt file at ≡ End → P more at [])
+    (goes : (more at : ℕ) (r : Record) (cs : List Cached) → readAt file at ≡ Stands r → P more (r .next) cs → P (suc more) at (cachedAt file (r .value) ∷ cs)) where
+  holds-by : (more at : ℕ) (cs : List Cached) → cacheFrom more file at ≡ records cs
+      → ((r : Record) → readAt file at ≡ Stands r → P more at cs) → P more at cs
+  holds-by more at cs e f = go (readAt file at) refl
+    where
+      go : (w : Read) → readAt file at ≡ w → P more at cs
+      go (Stands r) q = f r q
+      go End q = subst (P more at) (records-same (sym e ∙ from-by more file at q)) (ends more at q)
+      go Ill q = absurd (ill-records (sym (from-by more file at q) ∙ e))
+
+  pub holds-from : (more at : ℕ) (cs : List Cached) → cacheFrom more file at ≡ records cs → P more at cs
+  holds-from zero at cs e = holds-by zero at cs e (λ r q. absurd (ill-records (sym (from-by zero file at q) ∙ e)))
+  holds-from (suc more) at cs e = holds-by (suc more) at cs e (λ r q. go r q (cacheFrom more file (r .next)) refl (sym (from-by (suc more) file at q) ∙ e) (holds-from more (r .next)))
+    where
+      go : (r : Record) → readAt file at ≡ Stands r → (w : Cache) → cacheFrom more file (r .next) ≡ w → cachedAt file (r .value) before w ≡ records cs
+          → ((cs : List Cached) → cacheFrom more file (r .next) ≡ records cs → P more (r .next) cs) → P (suc more) at cs
+      go r q (records ds) p h ih = subst (P (suc more) at) (records-same (sym h)) (goes more at r ds q (ih ds p))
+      go r q illFormed p h ih = absurd (ill-records h)

@@ -1,29 +1,23 @@
--- What is known of a choice, and of the records of a file.
+-- What is known of a choice.
 use mathlib.Core.Path.{_≡_, refl, sym, ap, _∙_, subst}
 use mathlib.Core.Bool.{Bool, true, false, _&&_}
 use mathlib.Core.List.{List, [], _∷_}
 use mathlib.Core.Option.{Option, none, some, Option·some-injective, Option·none-ne-some}
-use Prim.Native.Nat.{ℕ, zero, suc, _+_, _-_, _^_, _≤_, _<_}
+use Prim.Native.Nat.{ℕ, suc, _+_, _-_, _≤_, _<_}
 use native.Mathlib.Nat.{sub-zero}
 use native.Mathlib.Omega.{arith}
 use borrow.Author.Tests.{eqb-true, ltb-true}
 use lib.Dec.{eqb, ltb}
-use lib.ListN.{length, getD, getElem?, drop, length-drop}
-use lib.Seq.{length-take-le}
+use lib.ListN.{length, getD, getElem?}
 use Rattle.octets.specs.Choice.{if_then_else_}
 use Rattle.octets.specs.Equality.{sameOctets}
 use Rattle.octets.specs.Search.{first, entry}
 use Rattle.octets.proofs.Equality.{same-eq}
 use Rattle.octets.proofs.Logic.{both}
-use Rattle.octets.proofs.Numbers.{le-bound}
 use Rattle.units.specs.declared.Tu.{Tu}
 use Rattle.cache.specs.declared.Choice.{Choice}
-use Rattle.cache.specs.declared.Read.{Read}
-use Rattle.cache.specs.declared.Read.the-variants.{Stands, End, Ill}
-use Rattle.cache.specs.File.{readAt, Cached, cachedAt, Cache, records, illFormed, cacheFrom, cacheOf, recordsIn, recordsOf}
+use Rattle.cache.specs.File.{Cached}
 use Rattle.cache.specs.Search.{matches, foundOf, choiceFrom, choiceOf}
-use Rattle.cache.proofs.Records.{within}
-use Rattle.cache.proofs.File.{From, none-left, not-ill, one-left}
 
 -- What was found: it stands in the list, by its place, with that PMKID, the same AKM and an end later than the reading.
 pub record Matched (cs : List Cached) (pmkid : List ℕ) (akm : ℕ) (reading : Tu) (c : Cached) : Type 0 where
@@ -102,68 +96,3 @@ module _ (cs : List Cached) (akm : ℕ) (reading : Tu) {k : ℕ} {end : Tu} wher
   pub chosen : (pmkids : List (List ℕ)) → choiceOf cs pmkids akm reading ≡ Choice.Chosen k end → Chosen cs pmkids akm reading k end
   unfolding choiceOf
   chosen pmkids e = subst (λ (n : ℕ). Chosen cs pmkids akm reading n end) (sub-zero k) (chosen-from 0 pmkids e .1)
-
--- Where a record of the file lies.
-pub record Lies (file : List ℕ) (c : Cached) : Type 0 where
-  pub value : ℕ
-  pub within : value + 25 ≤ length file
-  pub is : c ≡ cachedAt file value
-
-head-same : {c d : Cached} {cs ds : List Cached} → c ∷ cs ≡ d ∷ ds → c ≡ d
-head-same e = cc
-
-tail-same : {c d : Cached} {cs ds : List Cached} → c ∷ cs ≡ d ∷ ds → ds ≡ cs
-tail-same e = cc
-
-none-one : {c : Cached} {cs : List Cached} → c ∷ cs ≡ [] → ⊥
-none-one e = let z : _≡_ {A = ℕ} 0 1 = cc in omega arith
-
--- the first of the records from a place on, and the others
-record Parted (file : List ℕ) (c : Cached) (cs : List Cached) : Type 0 where
-  pub lies : Lies file c
-  pub next : ℕ
-  pub from : From file next cs
-
-parted : (file : List ℕ) (at : ℕ) {c : Cached} {cs : List Cached} → From file at (c ∷ cs) → Parted file c cs
-parted file at {c} {cs} g = go (readAt file at) refl
-  where
-    go : (r : Read) → readAt file at ≡ r → Parted file c cs
-    go (Stands r) q =
-        let t = one-left g q in
-        record {
-          lies = record { value = r .value; within = within file at q .value; is = head-same (t .are) };
-          next = r .next;
-          from = subst (From file (r .next)) (tail-same (t .are)) (t .from);
-        }
-    go End q = absurd (none-one (none-left g q))
-    go Ill q = absurd (not-ill g q)
-
-lies-from : (file : List ℕ) (at : ℕ) (cs : List Cached) → From file at cs → (place : ℕ) (c : Cached) → getElem? cs place ≡ some c → Lies file c
-lies-from file at [] g place c e = absurd (Option·none-ne-some c e)
-lies-from file at (d ∷ cs) g zero c e = subst (Lies file) (Option·some-injective d c e) (parted file at g .lies)
-lies-from file at (d ∷ cs) g (suc place) c e =
-    let p = parted file at g in
-    lies-from file (p .next) cs (p .from) place c e
-
-pub lies : (file : List ℕ) (place : ℕ) (c : Cached) → getElem? (recordsOf file) place ≡ some c → Lies file c
-unfolding recordsOf cacheOf
-lies file place c e = go (cacheFrom 64 file 0) refl e
-  where
-    go : (w : Cache) → cacheFrom 64 file 0 ≡ w → getElem? (recordsIn w) place ≡ some c → Lies file c
-    go (records cs) q e = lies-from file 0 cs (record { more = 64; are = q }) place c e
-    go illFormed q e = absurd (Option·none-ne-some c e)
-
--- What a record of a file of octets fits into.
-pub record Fits (c : Cached) : Type 0 where
-  pub pmkid : length (c .pmkid) ≡ 16
-  pub akm : c .akm < 256
-  pub end : c .end < 2 ^ 64
-
-pub fits : (file : List ℕ) (c : Cached) → ((i : ℕ) → getD file i 0 < 256) → Lies file c → Fits c
-fits file c h l =
-    let v = l .value in
-    subst Fits (sym (l .is)) (record {
-      pmkid = length-take-le 16 (drop v file) (omega (arith, length-drop v file, l .within));
-      akm = h (v + 16);
-      end = le-bound 8 file (v + 17) h;
-    })

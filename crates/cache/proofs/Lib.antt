@@ -4,3 +4,4 @@ pub mod File
 pub mod Check
 pub mod Search
 pub mod Laws
+pub mod Written

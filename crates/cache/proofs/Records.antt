@@ -11,7 +11,6 @@ use Rattle.octets.specs.Choice.{if_then_else_}
 use Rattle.octets.specs.Numbers.{le}
 use Rattle.octets.proofs.Logic.{both}
 use Rattle.cache.specs.declared.Record.{Record}
-use Rattle.cache.specs.declared.Read.{Read}
 use Rattle.cache.specs.declared.Read.the-variants.{Stands, End, Ill}
 use Rattle.cache.specs.File.{isRecord, readAt, stands}
 

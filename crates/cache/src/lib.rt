@@ -34,7 +34,7 @@ enum Read {
     Ill,
 }
 
-// The record at a place where one stands. Every walk of the file steps by this.
+// The record at a place where one stands. Every walk of the file steps by this: the check where `read_at` finds one, the search, whose file is well-formed, at once.
 fn record_at(file: &[u8], at: usize) -> Record
     requires { ⌜ stands (readAt (now file) at) ≡ true ⌝ }
     ensures { λ r. ⌜ readAt (now (file .entry)) at ≡ Stands r ⌝ }

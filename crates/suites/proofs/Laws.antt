@@ -23,7 +23,7 @@ use Rattle.suites.specs.declared.Group.{Group}
 use Rattle.suites.specs.declared.GroupEntry.{GroupEntry}
 use Rattle.suites.specs.declared.Suite.the-variants.{Ours}
 use Rattle.suites.specs.Suite.{suiteAt, suiteOctets}
-use Rattle.suites.specs.Tables.{akms, akmOf, isMicLength, ciphers, cipherOf, groups, groupOf, hasForm, isKeyOf}
+use Rattle.suites.specs.Tables.{akms, longestMic, akmOf, isMicLength, ciphers, cipherOf, groups, longestKey, groupOf, hasForm, isKeyOf}
 use Rattle.suites.proofs.Lookup.{looked-up}
 
 pub record Within (low high n : ℕ) : Type 0 where
@@ -40,12 +40,12 @@ is-within low high n e =
 
 pub record AkmFound (kind : ℕ) (akm : Akm) : Type 0 where
   pub asked : akm .kind ≡ kind
-  pub mic : Within 1 16 (akm .mic)
+  pub mic : Within 1 longestMic (akm .mic)
 
 pub akm-found : {kind : ℕ} {akm : Akm} → akmOf kind ≡ AkmEntry.In akm → AkmFound kind akm
 unfolding akmOf
 akm-found {kind} {akm} e =
-    let p = looked-up (λ (a : Akm). a .kind) akms kind AkmEntry.In AkmEntry.NotInTable (λ x y q. cc) (λ x q. cc) (λ a. within 1 16 (a .mic)) refl akm e in
+    let p = looked-up (λ (a : Akm). a .kind) akms kind AkmEntry.In AkmEntry.NotInTable (λ x y q. cc) (λ x q. cc) (λ a. within 1 longestMic (a .mic)) refl akm e in
     record { asked = p .0; mic = is-within _ _ _ (p .1) }
 
 pub record CipherFound (kind : ℕ) (cipher : Cipher) : Type 0 where
@@ -60,7 +60,7 @@ cipher-found {kind} {cipher} e =
 
 pub record GroupFound (number : ℕ) (group : Group) : Type 0 where
   pub asked : group .number ≡ number
-  pub keys : (key : List ℕ) → isKeyOf group key ≡ true → Within 1 65 (length key)
+  pub keys : (key : List ℕ) → isKeyOf group key ≡ true → Within 1 longestKey (length key)
 
 form-length : (key : List ℕ) (form : KeyForm) → hasForm key form ≡ true → length key ≡ form .length
 unfolding hasForm
@@ -69,7 +69,7 @@ form-length key form e = eqb-true _ _ (both _ _ (both _ _ (both _ _ e .0) .0) .0
 pub group-found : {number : ℕ} {group : Group} → groupOf number ≡ GroupEntry.In group → GroupFound number group
 unfolding groupOf isKeyOf
 group-found {number} {group} e =
-    let lengths : Group → Bool = λ g. within 1 65 (g .compressed .length) && within 1 65 (g .uncompressed .length) in
+    let lengths : Group → Bool = λ g. within 1 longestKey (g .compressed .length) && within 1 longestKey (g .uncompressed .length) in
     let p = looked-up (λ (g : Group). g .number) groups number GroupEntry.In GroupEntry.NotInTable (λ x y q. cc) (λ x q. cc) lengths refl group e in
     let w = both _ _ (p .1) in
     record {
@@ -103,12 +103,12 @@ suite-reads-back kind before after =
     suite-ext (before ++ rest) rest (length before) 0 λ i h. simp (getD-append-add, zero-add)
 
 -- a length that goes with some AKM is one that an element can have
-pub mic-length : (n : ℕ) → isMicLength n ≡ true → Within 1 16 n
+pub mic-length : (n : ℕ) → isMicLength n ≡ true → Within 1 longestMic n
 unfolding isMicLength
 mic-length n e = go (first (λ (a : Akm). eqb (a .mic) n) akms) refl e
   where
-    go : (o : Option Akm) → first (λ (a : Akm). eqb (a .mic) n) akms ≡ o → entry (λ (a : Akm). true) false o ≡ true → Within 1 16 n
+    go : (o : Option Akm) → first (λ (a : Akm). eqb (a .mic) n) akms ≡ o → entry (λ (a : Akm). true) false o ≡ true → Within 1 longestMic n
     go none q e = absurd (false≢true e)
     go (some a) q e =
-        let p = first-found (λ (a : Akm). eqb (a .mic) n) (λ a. within 1 16 (a .mic)) akms a refl q in
-        rw (eqb-true (a .mic) n (p .0)) at (is-within 1 16 (a .mic) (p .1))
+        let p = first-found (λ (a : Akm). eqb (a .mic) n) (λ a. within 1 longestMic (a .mic)) akms a refl q in
+        rw (eqb-true (a .mic) n (p .0)) at (is-within 1 longestMic (a .mic) (p .1))

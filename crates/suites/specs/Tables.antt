@@ -4,6 +4,7 @@ use mathlib.Core.Bool.{Bool, true, false, _&&_, _||_, not}
 use mathlib.Core.List.{List, [], _∷_}
 use lib.Dec.{eqb, leb}
 use lib.ListN.{length, getD}
+use Rattle.octets.specs.Choice.{if_then_else_}
 use Rattle.octets.specs.Search.{first, entry}
 use Rattle.suites.specs.declared.Akm.{Akm}
 use Rattle.suites.specs.declared.AkmEntry.{AkmEntry}
@@ -13,6 +14,14 @@ use Rattle.suites.specs.declared.KeyForm.{KeyForm}
 use Rattle.suites.specs.declared.Group.{Group}
 use Rattle.suites.specs.declared.GroupEntry.{GroupEntry}
 
+-- the greater of two numbers, and the greatest number of a table's entries
+abbrev greater : ℕ → ℕ → ℕ
+greater m n = if leb m n then n else m
+
+abbrev greatest : {A : Type 0} → (A → ℕ) → List A → ℕ
+greatest number [] = 0
+greatest number (x ∷ xs) = greater (number x) (greatest number xs)
+
 -- AKM types 5, 6, 8 and 21, each with a MIC of 16 octets; 21 is PASN itself, with no PMK
 abbrev pub akms : List Akm
 akms =
@@ -21,6 +30,10 @@ akms =
     ∷ record { kind = 8; mic = 16; pmk = true }
     ∷ record { kind = 21; mic = 16; pmk = false }
     ∷ []
+
+-- the octets of the longest MIC
+abbrev pub longestMic : ℕ
+longestMic = greatest (λ (a : Akm). a .mic) akms
 
 unfoldable pub akmOf : ℕ → AkmEntry
 akmOf kind = entry AkmEntry.In AkmEntry.NotInTable (first (λ (a : Akm). eqb (a .kind) kind) akms)
@@ -54,6 +67,10 @@ groups =
       uncompressed = record { length = 65; lowest = 4; highest = 4 };
     }
     ∷ []
+
+-- the octets of the longest key
+abbrev pub longestKey : ℕ
+longestKey = greatest (λ (g : Group). greater (g .compressed .length) (g .uncompressed .length)) groups
 
 unfoldable pub groupOf : ℕ → GroupEntry
 groupOf number = entry GroupEntry.In GroupEntry.NotInTable (first (λ (g : Group). eqb (g .number) number) groups)

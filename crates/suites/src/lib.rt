@@ -4,7 +4,7 @@ ghost use Prim.Native.Nat.{_+_, _≤_};
 ghost use lib.ListN.{length};
 ghost use Rattle.octets.specs.Wrote.{Wrote};
 ghost use Rattle.suites.specs.Suite.{suiteAt, suiteOctets};
-ghost use Rattle.suites.specs.Tables.{akmOf, isMicLength, cipherOf, groupOf, hasForm, isKeyOf};
+ghost use Rattle.suites.specs.Tables.{longestMic, akmOf, isMicLength, cipherOf, longestKey, groupOf, hasForm, isKeyOf};
 
 // The first three octets of every suite that counts.
 pub const SELECTOR: [u8; 3] = [0x00, 0x0f, 0xac];
@@ -74,10 +74,19 @@ const AKMS: [Akm; 4] = [
     },
 ];
 
+// The longest MIC that goes with an AKM of the table.
+pub const LONGEST_MIC: usize = AKMS[0].mic;
+
+pub fn longest_mic() -> usize
+    ensures { λ r. ⌜ r ≡ longestMic ⌝ }
+{
+    LONGEST_MIC
+}
+
 pub fn akm_of(kind: u8) -> AkmEntry
     ensures { λ r. ⌜ r ≡ akmOf kind ⌝ }
 {
-    for i in 0..4 {
+    for i in 0..AKMS.len() {
         let akm = AKMS[i];
         if akm.kind == kind {
             return AkmEntry::In(akm);
@@ -90,7 +99,7 @@ pub fn akm_of(kind: u8) -> AkmEntry
 pub fn is_mic_length(n: usize) -> bool
     ensures { λ r. ⌜ r ≡ isMicLength n ⌝ }
 {
-    for i in 0..4 {
+    for i in 0..AKMS.len() {
         let akm = AKMS[i];
         if akm.mic == n {
             return true;
@@ -123,7 +132,7 @@ const CIPHERS: [Cipher; 4] = [
 pub fn cipher_of(kind: u8) -> CipherEntry
     ensures { λ r. ⌜ r ≡ cipherOf kind ⌝ }
 {
-    for i in 0..4 {
+    for i in 0..CIPHERS.len() {
         let cipher = CIPHERS[i];
         if cipher.kind == kind {
             return CipherEntry::In(cipher);
@@ -165,10 +174,19 @@ const GROUPS: [Group; 1] = [Group {
     },
 }];
 
+// The longest key that a group of the table has.
+pub const LONGEST_KEY: usize = GROUPS[0].uncompressed.length;
+
+pub fn longest_key() -> usize
+    ensures { λ r. ⌜ r ≡ longestKey ⌝ }
+{
+    LONGEST_KEY
+}
+
 pub fn group_of(number: u16) -> GroupEntry
     ensures { λ r. ⌜ r ≡ groupOf number ⌝ }
 {
-    for i in 0..1 {
+    for i in 0..GROUPS.len() {
         let group = GROUPS[i];
         if group.number == number {
             return GroupEntry::In(group);

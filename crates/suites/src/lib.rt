@@ -6,8 +6,12 @@ ghost use Rattle.octets.specs.Wrote.{Wrote};
 ghost use Rattle.suites.specs.Suite.{suiteAt, suiteOctets};
 ghost use Rattle.suites.specs.Tables.{longestMic, akmOf, isMicLength, cipherOf, longestKey, groupOf, hasForm, isKeyOf};
 
-// The first three octets of every suite that counts.
-pub const SELECTOR: [u8; 3] = [0x00, 0x0f, 0xac];
+// The selector: the first three octets of every suite that counts.
+pub const OUI_0: u8 = 0x00;
+
+pub const OUI_1: u8 = 0x0f;
+
+pub const OUI_2: u8 = 0xac;
 
 // A suite in a frame: one that counts, with its type, or one of another selector.
 pub enum Suite {
@@ -20,9 +24,9 @@ pub fn suite_at(s: &[u8], at: usize) -> Suite
     requires { ⌜ at + 4 ≤ length (now s) ⌝ }
     ensures { λ r. ⌜ r ≡ suiteAt (now (s .entry)) at ⌝ }
 {
-    if s[at] == SELECTOR[0] {
-        if s[at + 1] == SELECTOR[1] {
-            if s[at + 2] == SELECTOR[2] {
+    if s[at] == OUI_0 {
+        if s[at + 1] == OUI_1 {
+            if s[at + 2] == OUI_2 {
                 return Suite::Ours(s[at + 3]);
             }
         }
@@ -35,7 +39,7 @@ pub fn put_suite(d: &mut [u8], kind: u8) -> usize
     requires { ⌜ 4 ≤ length (now d) ⌝ }
     ensures { λ r. ⌜ Wrote (suiteOctets kind) r (now (d .entry)) (now (d .exit)) ⌝ }
 {
-    let suite = [SELECTOR[0], SELECTOR[1], SELECTOR[2], kind];
+    let suite = [OUI_0, OUI_1, OUI_2, kind];
     octets::copy_in(d, &suite)
 }
 

@@ -7,17 +7,11 @@ use Rattle.suites.proofs.suite_at.Tie as tie
 shared-slice-read-if1 : tie.Need-shared-slice-read-if1
 shared-slice-read-if1 c = search needs
 
-array-read-if1 : tie.Need-array-read-if1
-array-read-if1 c = search needs
-
 add-if2 : tie.Need-add-if2
 add-if2 c = search needs
 
 shared-slice-read-if2 : tie.Need-shared-slice-read-if2
 shared-slice-read-if2 c = search needs
-
-array-read-if2 : tie.Need-array-read-if2
-array-read-if2 c = search needs
 
 add-if3 : tie.Need-add-if3
 add-if3 c = search needs
@@ -25,14 +19,11 @@ add-if3 c = search needs
 shared-slice-read-if3 : tie.Need-shared-slice-read-if3
 shared-slice-read-if3 c = search needs
 
-array-read-if3 : tie.Need-array-read-if3
-array-read-if3 c = search needs
+add-t14 : tie.Need-add-t14
+add-t14 c = search needs
 
-add-t26 : tie.Need-add-t26
-add-t26 c = search needs
-
-shared-slice-read-t28 : tie.Need-shared-slice-read-t28
-shared-slice-read-t28 c = search needs
+shared-slice-read-t16 : tie.Need-shared-slice-read-t16
+shared-slice-read-t16 c = search needs
 
 returns : tie.Need-returns
 unfolding suiteAt
@@ -55,15 +46,12 @@ suite-at-spec =
     tie.close
     (tie.spec
     shared-slice-read-if1
-    array-read-if1
     add-if2
     shared-slice-read-if2
-    array-read-if2
     add-if3
     shared-slice-read-if3
-    array-read-if3
-    add-t26
-    shared-slice-read-t28
+    add-t14
+    shared-slice-read-t16
     returns
     returns-2
     returns-3

@@ -6,7 +6,6 @@ ghost use Rattle.octets.specs.Wrote.{Wrote};
 ghost use Rattle.layouts.specs.Rsne.{onlyOf, rsneOf, rsneOctets};
 use elements::Part;
 use suites::GROUP_CIPHER;
-use suites::SELECTOR;
 use suites::Suite;
 
 // A list of suites: the one suite that it has, or that it has none or several.
@@ -52,26 +51,32 @@ pub fn read(content: &[u8]) -> Reading
         return Reading::Ill;
     }
     let m = octets::le2(content, 6) as usize;
-    if n < 18 + 4 * m {
+    let pairwise = 4 * m;
+    let without_akms = 18 + pairwise;
+    if n < without_akms {
         return Reading::Ill;
     }
-    let a = octets::le2(content, 8 + 4 * m) as usize;
-    if n < 18 + 4 * m + 4 * a {
+    let a = octets::le2(content, 8 + pairwise) as usize;
+    let akms = 4 * a;
+    let without_pmkids = without_akms + akms;
+    if n < without_pmkids {
         return Reading::Ill;
     }
-    let p = octets::le2(content, 12 + 4 * m + 4 * a) as usize;
-    if n != 18 + 4 * m + 4 * a + 16 * p {
+    let p = octets::le2(content, 12 + pairwise + akms) as usize;
+    let pmkids = 16 * p;
+    if n != without_pmkids + pmkids {
         return Reading::Ill;
     }
-    let start = 14 + 4 * m + 4 * a;
+    let start = 14 + pairwise + akms;
+    let suites_of_akm = 10 + pairwise;
     Reading::Is(Rsne {
         group: suites::suite_at(content, 2),
         pairwise: only_of(content, m, 8),
-        akm: only_of(content, a, 10 + 4 * m),
-        capabilities: octets::le2(content, 10 + 4 * m + 4 * a),
+        akm: only_of(content, a, suites_of_akm),
+        capabilities: octets::le2(content, suites_of_akm + akms),
         pmkids: Part {
             start: start,
-            end: start + 16 * p,
+            end: start + pmkids,
         },
         management: suites::suite_at(content, n - 4),
     })
@@ -88,21 +93,21 @@ pub fn put(d: &mut [u8], cipher: u8, akm: u8, pmkids: &[u8]) -> usize
         (n + 26) as u8,
         1,
         0,
-        SELECTOR[0],
-        SELECTOR[1],
-        SELECTOR[2],
+        suites::OUI_0,
+        suites::OUI_1,
+        suites::OUI_2,
         GROUP_CIPHER,
         1,
         0,
-        SELECTOR[0],
-        SELECTOR[1],
-        SELECTOR[2],
+        suites::OUI_0,
+        suites::OUI_1,
+        suites::OUI_2,
         cipher,
         1,
         0,
-        SELECTOR[0],
-        SELECTOR[1],
-        SELECTOR[2],
+        suites::OUI_0,
+        suites::OUI_1,
+        suites::OUI_2,
         akm,
         0xc0,
         0,

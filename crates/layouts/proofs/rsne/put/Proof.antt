@@ -17,35 +17,8 @@ add-t9 c = search needs
 cast-t10 : tie.Need-cast-t10
 cast-t10 c = search needs
 
-array-read-t14 : tie.Need-array-read-t14
-array-read-t14 c = search needs
-
-array-read-t18 : tie.Need-array-read-t18
-array-read-t18 c = search needs
-
-array-read-t22 : tie.Need-array-read-t22
-array-read-t22 c = search needs
-
-array-read-t26 : tie.Need-array-read-t26
-array-read-t26 c = search needs
-
-array-read-t30 : tie.Need-array-read-t30
-array-read-t30 c = search needs
-
-array-read-t34 : tie.Need-array-read-t34
-array-read-t34 c = search needs
-
-array-read-t38 : tie.Need-array-read-t38
-array-read-t38 c = search needs
-
-array-read-t42 : tie.Need-array-read-t42
-array-read-t42 c = search needs
-
-array-read-t46 : tie.Need-array-read-t46
-array-read-t46 c = search needs
-
-cast-t48 : tie.Need-cast-t48
-cast-t48 c = search needs
+cast-t12 : tie.Need-cast-t12
+cast-t12 c = search needs
 
 slice-aggregate-copy-in : tie.Need-slice-aggregate-copy-in
 slice-aggregate-copy-in c = search needs
@@ -103,16 +76,7 @@ put-spec =
     (tie.spec
     add-t9
     cast-t10
-    array-read-t14
-    array-read-t18
-    array-read-t22
-    array-read-t26
-    array-read-t30
-    array-read-t34
-    array-read-t38
-    array-read-t42
-    array-read-t46
-    cast-t48
+    cast-t12
     slice-aggregate-copy-in
     copy-in-requires
     sub-copy-in

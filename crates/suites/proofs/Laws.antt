@@ -1,19 +1,16 @@
 -- Laws of the tables, each by one test of the whole table, and of a suite in a string.
 use Prim.Native.Nat.{ℕ, _+_, _≤_, _<_}
 use mathlib.Core.Path.{_≡_, refl}
-use mathlib.Core.Bool.{Bool, true, false, _&&_, false≢true}
+use mathlib.Core.Bool.{Bool, true, _&&_}
 use mathlib.Core.List.{List, _++_}
 use mathlib.Core.Logic.{⊎-elim}
-use mathlib.Core.Option.{Option, none, some}
 use native.Mathlib.Nat.{add-zero, zero-add, add-assoc}
 use native.Mathlib.Omega.{arith}
-use lib.Dec.{leb, eqb}
+use lib.Dec.{leb}
 use lib.ListN.{length, drop, getD}
 use lib.Seq.{getD-drop, getD-append-add}
 use borrow.Author.Tests.{eqb-true, leb-true}
-use Rattle.octets.specs.Search.{first, entry}
 use Rattle.octets.proofs.Logic.{both, either}
-use Rattle.octets.proofs.Search.{first-found}
 use Rattle.suites.specs.declared.Akm.{Akm}
 use Rattle.suites.specs.declared.AkmEntry.{AkmEntry}
 use Rattle.suites.specs.declared.Cipher.{Cipher}
@@ -23,7 +20,7 @@ use Rattle.suites.specs.declared.Group.{Group}
 use Rattle.suites.specs.declared.GroupEntry.{GroupEntry}
 use Rattle.suites.specs.declared.Suite.the-variants.{Ours}
 use Rattle.suites.specs.Suite.{suiteAt, suiteOctets}
-use Rattle.suites.specs.Tables.{akms, longestMic, akmOf, isMicLength, ciphers, cipherOf, groups, longestKey, groupOf, hasForm, isKeyOf}
+use Rattle.suites.specs.Tables.{akms, longestMic, akmOf, ciphers, cipherOf, groups, longestKey, groupOf, hasForm, isKeyOf}
 use Rattle.suites.proofs.Lookup.{looked-up}
 
 pub record Within (low high n : ℕ) : Type 0 where
@@ -101,14 +98,3 @@ unfolding suiteAt suiteOctets
 suite-reads-back kind before after =
     let rest = suiteOctets kind ++ after in
     suite-ext (before ++ rest) rest (length before) 0 λ i h. simp (getD-append-add, zero-add)
-
--- a length that goes with some AKM is one that an element can have
-pub mic-length : (n : ℕ) → isMicLength n ≡ true → Within 1 longestMic n
-unfolding isMicLength
-mic-length n e = go (first (λ (a : Akm). eqb (a .mic) n) akms) refl e
-  where
-    go : (o : Option Akm) → first (λ (a : Akm). eqb (a .mic) n) akms ≡ o → entry (λ (a : Akm). true) false o ≡ true → Within 1 longestMic n
-    go none q e = absurd (false≢true e)
-    go (some a) q e =
-        let p = first-found (λ (a : Akm). eqb (a .mic) n) (λ a. within 1 longestMic (a .mic)) akms a refl q in
-        rw (eqb-true (a .mic) n (p .0)) at (is-within 1 longestMic (a .mic) (p .1))

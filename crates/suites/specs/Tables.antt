@@ -22,6 +22,10 @@ abbrev greatest : {A : Type 0} → (A → ℕ) → List A → ℕ
 greatest number [] = 0
 greatest number (x ∷ xs) = greater (number x) (greatest number xs)
 
+-- the entry of a table that has a number, as an answer, or the answer where no entry has it
+abbrev pub lookUp : {A B : Type 0} → (A → ℕ) → List A → ℕ → (A → B) → B → B
+lookUp number table n found missing = entry found missing (first (λ x. eqb (number x) n) table)
+
 -- AKM types 5, 6, 8 and 21, each with a MIC of 16 octets; 21 is PASN itself, with no PMK
 abbrev pub akms : List Akm
 akms =
@@ -36,11 +40,11 @@ abbrev pub longestMic : ℕ
 longestMic = greatest (λ (a : Akm). a .mic) akms
 
 unfoldable pub akmOf : ℕ → AkmEntry
-akmOf kind = entry AkmEntry.In AkmEntry.NotInTable (first (λ (a : Akm). eqb (a .kind) kind) akms)
+akmOf kind = lookUp (λ (a : Akm). a .kind) akms kind AkmEntry.In AkmEntry.NotInTable
 
 -- whether a MIC of n octets goes with an AKM of the table
 unfoldable pub isMicLength : ℕ → Bool
-isMicLength n = entry (λ (a : Akm). true) false (first (λ (a : Akm). eqb (a .mic) n) akms)
+isMicLength n = lookUp (λ (a : Akm). a .mic) akms n (λ (a : Akm). true) false
 
 -- the group cipher, and the group management cipher
 abbrev pub groupCipher : ℕ
@@ -56,7 +60,7 @@ ciphers =
     ∷ []
 
 unfoldable pub cipherOf : ℕ → CipherEntry
-cipherOf kind = entry CipherEntry.In CipherEntry.NotInTable (first (λ (c : Cipher). eqb (c .kind) kind) ciphers)
+cipherOf kind = lookUp (λ (c : Cipher). c .kind) ciphers kind CipherEntry.In CipherEntry.NotInTable
 
 -- group 19, with key length 33 (first octet 2 or 3) or 65 (first octet 4)
 abbrev pub groups : List Group
@@ -73,7 +77,7 @@ abbrev pub longestKey : ℕ
 longestKey = greatest (λ (g : Group). greater (g .compressed .length) (g .uncompressed .length)) groups
 
 unfoldable pub groupOf : ℕ → GroupEntry
-groupOf number = entry GroupEntry.In GroupEntry.NotInTable (first (λ (g : Group). eqb (g .number) number) groups)
+groupOf number = lookUp (λ (g : Group). g .number) groups number GroupEntry.In GroupEntry.NotInTable
 
 -- whether a key has a form: its length, and its first octet
 unfoldable pub hasForm : List ℕ → KeyForm → Bool

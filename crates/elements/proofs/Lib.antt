@@ -1,5 +1,5 @@
 pub mod Cases
-pub mod Steps
+pub mod Standing
 pub mod Walk
 pub mod Scanning
 pub mod Unread

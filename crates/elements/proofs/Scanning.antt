@@ -11,18 +11,18 @@ use Rattle.octets.specs.Choice.{if_then_else_}
 use Rattle.elements.specs.declared.Extension.{Extension}
 use Rattle.elements.specs.declared.Extension.the-variants.{Absent}
 use Rattle.elements.specs.declared.Element.{Element}
-use Rattle.elements.specs.declared.Step.the-variants.{Stands, End, Failed}
+use Rattle.elements.specs.declared.Met.the-variants.{Stands, End, Failed}
 use Rattle.elements.specs.declared.Kind.{Kind}
 use Rattle.elements.specs.declared.Kind.the-variants.{Rsne, Timeout, Mic, Fragment, Parameters, Wrapped, Skipped}
 use Rattle.elements.specs.declared.Times.{Times}
 use Rattle.elements.specs.declared.Places.{Places}
 use Rattle.elements.specs.declared.Scan.{Scan}
-use Rattle.elements.specs.Step.{stepAt}
+use Rattle.elements.specs.Met.{metAt}
 use Rattle.elements.specs.Walk.{Walk, walked, failedAt, _then_, walk, walkBody}
-use Rattle.elements.specs.Scan.{plainKind, kindBy, kindOf, number, isKind, ofKind, partOf, timesOf, placesOf, scanBy, scanOf}
+use Rattle.elements.specs.Scan.{plainKind, kindBy, kindOf, kindNumber, isKind, ofKind, partOf, timesOf, placesOf, scanBy, scanOf}
 use Rattle.elements.specs.Noting.{seenOf, markOf}
 use Rattle.elements.specs.Within.{Lies, LiesIf, Within}
-use Rattle.elements.proofs.Steps.{Stood}
+use Rattle.elements.proofs.Standing.{Stood}
 use Rattle.elements.proofs.Walk.{then-none, then-then, walk-stands, walk-ends, walk-fails, Each, EachOf, each-stood}
 
 -- one more at the end of those of a kind
@@ -58,7 +58,7 @@ scanned-none s start = record { seen = []; so-far = sym (then-none (walk s start
 
 module _ {s : List ℕ} {start : ℕ} {p : Places} {at : ℕ} (g : Scanned s start p at) where
   -- an element of kind k, marked in each of the six
-  module _ (e : Element) {k : Kind} (h : stepAt s at ≡ Stands e) (i : k ≡ kindOf e) where
+  module _ (e : Element) {k : Kind} (h : metAt s at ≡ Stands e) (i : k ≡ kindOf e) where
     told : (l : Kind) {t u : Times} → t ≡ timesOf (ofKind l (g .seen)) → u ≡ markOf k l t (partOf e) → u ≡ timesOf (ofKind l (g .seen ++ (e ∷ [])))
     told l m j = j ∙ ap₂ (λ (k : Kind) (t : Times). markOf k l t (partOf e)) i m ∙ times-more l (g .seen) e
 
@@ -84,11 +84,11 @@ module _ {s : List ℕ} {start : ℕ} {p : Places} {at : ℕ} (g : Scanned s sta
             (record { rsne = a'; timeout = b'; mic = c'; fragment = d'; parameters = f'; wrapped = w' })
         six p q r s t u = cc
 
-  pub scanned-all : stepAt s at ≡ End → scanBy (walk s start) ≡ Scan.Walked p
+  pub scanned-all : metAt s at ≡ End → scanBy (walk s start) ≡ Scan.Walked p
   scanned-all h =
       ap scanBy (g .so-far ∙ ap (λ (w : Walk). g .seen then w) (walk-ends s at h) ∙ ap walked (append-nil (g .seen))) ∙ ap Scan.Walked (sym (g .marks))
 
-  pub scanned-failed : stepAt s at ≡ Failed → scanBy (walk s start) ≡ Scan.Failed at
+  pub scanned-failed : metAt s at ≡ Failed → scanBy (walk s start) ≡ Scan.Failed at
   scanned-failed h = ap scanBy (g .so-far ∙ ap (λ (w : Walk). g .seen then w) (walk-fails s at h))
 
 pub in-body : (s : List ℕ) → 6 ≤ length s → length s ≤ 1024 → scanOf s ≡ scanBy (walk s 6)
@@ -97,12 +97,12 @@ in-body s h k = rw (le-ltb (length s) 6 h, le-ltb 1024 (length s) k)
 
 -- the fewest octets that an element's content has, by its kind
 abbrev fewest : ℕ → ℕ
-fewest n = if eqb n (number Parameters) then 1 else if eqb n (number Wrapped) then 1 else 0
+fewest n = if eqb n (kindNumber Parameters) then 1 else if eqb n (kindNumber Wrapped) then 1 else 0
 
-plain-fewest : (id : ℕ) → fewest (number (plainKind id)) ≡ 0
+plain-fewest : (id : ℕ) → fewest (kindNumber (plainKind id)) ≡ 0
 plain-fewest id = go (eqb id 48) (eqb id 56) (eqb id 140) (eqb id 242)
   where
-    go : (a b c d : Bool) → fewest (number (if a then Rsne else if b then Timeout else if c then Mic else if d then Fragment else Skipped)) ≡ 0
+    go : (a b c d : Bool) → fewest (kindNumber (if a then Rsne else if b then Timeout else if c then Mic else if d then Fragment else Skipped)) ≡ 0
     go true b c d = refl
     go false true c d = refl
     go false false true d = refl
@@ -110,34 +110,34 @@ plain-fewest id = go (eqb id 48) (eqb id 56) (eqb id 140) (eqb id 242)
     go false false false false = refl
 
 fewest-one : (n : ℕ) → fewest n ≤ 1
-fewest-one n = go (eqb n (number Parameters)) (eqb n (number Wrapped))
+fewest-one n = go (eqb n (kindNumber Parameters)) (eqb n (kindNumber Wrapped))
   where
     go : (a b : Bool) → (if a then 1 else if b then 1 else 0) ≤ 1
     go true b = omega arith
     go false true = omega arith
     go false false = omega arith
 
-element-lies : (s : List ℕ) (e : Element) → Stood s (e .place) e → Lies (fewest (number (kindOf e))) (length s) (partOf e)
+element-lies : (s : List ℕ) (e : Element) → Stood s (e .place) e → Lies (fewest (kindNumber (kindOf e))) (length s) (partOf e)
 element-lies s e st = record { long = omega (arith, long (eqb (getD s (e .place) 0) 255) refl); within = st .within }
   where
-    long : (b : Bool) → eqb (getD s (e .place) 0) 255 ≡ b → fewest (number (kindOf e)) ≤ e .length
+    long : (b : Bool) → eqb (getD s (e .place) 0) 255 ≡ b → fewest (kindNumber (kindOf e)) ≤ e .length
     long true q =
         let i : e .id ≡ getD s (e .place) 0 = ap (λ (e : Element). e .id) (st .is) in
-        omega (arith, st .extended (i ∙ eqb-true (getD s (e .place) 0) 255 q), fewest-one (number (kindOf e)))
+        omega (arith, st .extended (i ∙ eqb-true (getD s (e .place) 0) 255 q), fewest-one (kindNumber (kindOf e)))
     long false q =
         let x : e .extension ≡ Absent = ap (λ (e : Element). e .extension) (st .is) ∙ rw q in
         let k : kindOf e ≡ plainKind (e .id) = ap (λ (x : Extension). kindBy (e .id) x) x in
-        omega (arith, ap (λ (k : Kind). fewest (number k)) k ∙ plain-fewest (e .id))
+        omega (arith, ap (λ (k : Kind). fewest (kindNumber k)) k ∙ plain-fewest (e .id))
 
 kind-lies : (s : List ℕ) (k : Kind) (es : List Element) → Each (λ e. Stood s (e .place) e) es
-    → Each (λ e. Lies (fewest (number k)) (length s) (partOf e)) (ofKind k es)
+    → Each (λ e. Lies (fewest (kindNumber k)) (length s) (partOf e)) (ofKind k es)
 kind-lies s k [] h = tt
 kind-lies s k (e ∷ es) h = go (isKind (kindOf e) k) refl (kind-lies s k es (h .1))
   where
-    go : (b : Bool) → isKind (kindOf e) k ≡ b → Each (λ e. Lies (fewest (number k)) (length s) (partOf e)) (ofKind k es)
-        → Each (λ e. Lies (fewest (number k)) (length s) (partOf e)) (if b then e ∷ ofKind k es else ofKind k es)
+    go : (b : Bool) → isKind (kindOf e) k ≡ b → Each (λ e. Lies (fewest (kindNumber k)) (length s) (partOf e)) (ofKind k es)
+        → Each (λ e. Lies (fewest (kindNumber k)) (length s) (partOf e)) (if b then e ∷ ofKind k es else ofKind k es)
     go true q r =
-        (subst (λ (n : ℕ). Lies (fewest n) (length s) (partOf e)) (eqb-true (number (kindOf e)) (number k) q) (element-lies s e (h .0)), r)
+        (subst (λ (n : ℕ). Lies (fewest n) (length s) (partOf e)) (eqb-true (kindNumber (kindOf e)) (kindNumber k) q) (element-lies s e (h .0)), r)
     go false q r = r
 
 times-lie : (least n : ℕ) (es : List Element) → Each (λ e. Lies least n (partOf e)) es → LiesIf least n (timesOf es)
@@ -156,8 +156,8 @@ within-walk s es h = record {
   wrapped = of Wrapped;
 }
   where
-    of : (k : Kind) → LiesIf (fewest (number k)) (length s) (timesOf (ofKind k es))
-    of k = times-lie (fewest (number k)) (length s) (ofKind k es) (kind-lies s k es h)
+    of : (k : Kind) → LiesIf (fewest (kindNumber k)) (length s) (timesOf (ofKind k es))
+    of k = times-lie (fewest (kindNumber k)) (length s) (ofKind k es) (kind-lies s k es h)
 
 walked-same : {p q : Places} → Scan.Walked p ≡ Scan.Walked q → p ≡ q
 walked-same e = cc

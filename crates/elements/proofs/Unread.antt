@@ -14,7 +14,7 @@ use Rattle.octets.proofs.Numbers.{le-ext}
 use Rattle.elements.specs.declared.Extension.{Extension}
 use Rattle.elements.specs.declared.Extension.the-variants.{Id}
 use Rattle.elements.specs.declared.Element.{Element}
-use Rattle.elements.specs.declared.Step.the-variants.{Stands, End, Failed}
+use Rattle.elements.specs.declared.Met.the-variants.{Stands, End, Failed}
 use Rattle.elements.specs.declared.Kind.{Kind}
 use Rattle.elements.specs.declared.Kind.the-variants.{Mic, Parameters, Wrapped, Skipped}
 use Rattle.elements.specs.declared.Part.{Part}
@@ -23,10 +23,10 @@ use Rattle.elements.specs.declared.Times.the-variants.{None, One, More}
 use Rattle.elements.specs.declared.Places.{Places}
 use Rattle.elements.specs.declared.Scan.{Scan}
 use Rattle.elements.specs.Body.{bodyOf}
-use Rattle.elements.specs.Step.{stepAt}
+use Rattle.elements.specs.Met.{metAt}
 use Rattle.elements.specs.Walk.{Walk, walked, failedAt, _then_, walk, walkBody}
-use Rattle.elements.specs.Scan.{extendedKind, kindBy, kindOf, number, isKind, ofKind, partOf, timesOf, placesOf, scanBy, scanOf}
-use Rattle.elements.proofs.Steps.{Stood, stood, element-same}
+use Rattle.elements.specs.Scan.{extendedKind, kindBy, kindOf, kindNumber, isKind, ofKind, partOf, timesOf, placesOf, scanBy, scanOf}
+use Rattle.elements.proofs.Standing.{Stood, stood, element-same}
 use Rattle.elements.proofs.Walk.{walk-stands, walk-ends, walk-fails, walk-induction, Each, EachOf, each-stood}
 
 -- Two strings, as long as each other, that differ at most in a part.
@@ -54,28 +54,28 @@ abbrev pub SameFrom : ℕ → List ℕ → List ℕ → Type 0
 SameFrom at s t = (i : ℕ) → at ≤ i → getD s i 0 ≡ getD t i 0
 
 module _ (s t : List ℕ) (l : length s ≡ length t) where
-  step-same : (at : ℕ) → getD s at 0 ≡ getD t at 0 → getD s (at + 1) 0 ≡ getD t (at + 1) 0
-      → (getD t at 0 ≡ 255 → getD s (at + 2) 0 ≡ getD t (at + 2) 0) → stepAt t at ≡ stepAt s at
-  step-same at i n x = sym (rw (element-same s t at i n x, l, i, n))
+  met-same : (at : ℕ) → getD s at 0 ≡ getD t at 0 → getD s (at + 1) 0 ≡ getD t (at + 1) 0
+      → (getD t at 0 ≡ 255 → getD s (at + 2) 0 ≡ getD t (at + 2) 0) → metAt t at ≡ metAt s at
+  met-same at i n x = sym (rw (element-same s t at i n x, l, i, n))
 
   -- The walk from a place reads nothing before it.
   pub same-from : (at : ℕ) → SameFrom at s t → walk s at ≡ walk t at
   same-from = walk-induction s (λ at w. SameFrom at s t → w ≡ walk t at) at-end at-failure at-element
     where
-      step : (at : ℕ) → SameFrom at s t → stepAt t at ≡ stepAt s at
-      step at h = step-same at (h at (omega arith)) (h (at + 1) (omega arith)) (λ e. h (at + 2) (omega arith))
+      met : (at : ℕ) → SameFrom at s t → metAt t at ≡ metAt s at
+      met at h = met-same at (h at (omega arith)) (h (at + 1) (omega arith)) (λ e. h (at + 2) (omega arith))
 
-      at-end : (at : ℕ) → stepAt s at ≡ End → SameFrom at s t → walked [] ≡ walk t at
-      at-end at q h = sym (walk-ends t at (step at h ∙ q))
+      at-end : (at : ℕ) → metAt s at ≡ End → SameFrom at s t → walked [] ≡ walk t at
+      at-end at q h = sym (walk-ends t at (met at h ∙ q))
 
-      at-failure : (at : ℕ) → stepAt s at ≡ Failed → SameFrom at s t → failedAt at ≡ walk t at
-      at-failure at q h = sym (walk-fails t at (step at h ∙ q))
+      at-failure : (at : ℕ) → metAt s at ≡ Failed → SameFrom at s t → failedAt at ≡ walk t at
+      at-failure at q h = sym (walk-fails t at (met at h ∙ q))
 
-      at-element : (at : ℕ) (e : Element) → stepAt s at ≡ Stands e → (SameFrom (e .next) s t → walk s (e .next) ≡ walk t (e .next))
+      at-element : (at : ℕ) (e : Element) → metAt s at ≡ Stands e → (SameFrom (e .next) s t → walk s (e .next) ≡ walk t (e .next))
           → SameFrom at s t → (e ∷ []) then walk s (e .next) ≡ walk t at
       at-element at e q ih h =
           let st = stood s at e q in
-          ap (λ (w : Walk). (e ∷ []) then w) (ih (λ i k. h i (omega arith))) ∙ sym (walk-stands t at e (step at h ∙ q))
+          ap (λ (w : Walk). (e ∷ []) then w) (ih (λ i k. h i (omega arith))) ∙ sym (walk-stands t at e (met at h ∙ q))
 
 -- along the walk: t has it too from the place on, and the part starts after an ID and a length there
 record Passed (p : Part) (t : List ℕ) (at : ℕ) (w : Walk) : Type 0 where
@@ -90,27 +90,27 @@ module _ (p : Part) (s t : List ℕ) (b : SameBut p s t) where
       split e (walked es) h = h
       split e (failedAt place) h = absurd h
 
-      one-more : (at : ℕ) (e : Element) → stepAt s at ≡ Stands e → at + 2 ≤ p .start → (e .id ≡ 255 → at + 2 < p .start)
+      one-more : (at : ℕ) (e : Element) → metAt s at ≡ Stands e → at + 2 ≤ p .start → (e .id ≡ 255 → at + 2 < p .start)
           → walk s (e .next) ≡ walk t (e .next) → Passed p t at ((e ∷ []) then walk s (e .next))
       one-more at e q h x w =
           let st = stood s at e q in
           let i : e .id ≡ getD s at 0 = ap (λ (e : Element). e .id) (st .is) in
           let j = b .before at (omega arith) in
-          let same = step-same s t (b .long) at j (b .before (at + 1) (omega arith)) (λ k. b .before (at + 2) (x (i ∙ j ∙ k))) in
+          let same = met-same s t (b .long) at j (b .before (at + 1) (omega arith)) (λ k. b .before (at + 2) (x (i ∙ j ∙ k))) in
           record { head = h; same = ap (λ (w : Walk). (e ∷ []) then w) w ∙ sym (walk-stands t at e (same ∙ q)) }
 
-      here : (at : ℕ) (e : Element) → stepAt s at ≡ Stands e → Inside p e → Passed p t at ((e ∷ []) then walk s (e .next))
+      here : (at : ℕ) (e : Element) → metAt s at ≡ Stands e → Inside p e → Passed p t at ((e ∷ []) then walk s (e .next))
       here at e q k =
           let st = stood s at e q in
           one-more at e q (omega arith) (λ x. omega (arith, k .extended x)) (same-from s t (b .long) (e .next) (λ i h. b .after i (omega arith)))
 
-      later : (at : ℕ) (e : Element) → stepAt s at ≡ Stands e → Passed p t (e .next) (walk s (e .next))
+      later : (at : ℕ) (e : Element) → metAt s at ≡ Stands e → Passed p t (e .next) (walk s (e .next))
           → Passed p t at ((e ∷ []) then walk s (e .next))
       later at e q k =
           let st = stood s at e q in
           one-more at e q (omega (arith, k .head)) (λ x. omega (arith, k .head, st .extended x)) (k .same)
 
-      at-element : (at : ℕ) (e : Element) → stepAt s at ≡ Stands e → (SomeOf (Inside p) (walk s (e .next)) → Passed p t (e .next) (walk s (e .next)))
+      at-element : (at : ℕ) (e : Element) → metAt s at ≡ Stands e → (SomeOf (Inside p) (walk s (e .next)) → Passed p t (e .next) (walk s (e .next)))
           → SomeOf (Inside p) ((e ∷ []) then walk s (e .next)) → Passed p t at ((e ∷ []) then walk s (e .next))
       at-element at e q ih h = ⊎-elim (here at e q) (λ k. later at e q (ih k)) (split e (walk s (e .next)) h)
 
@@ -145,21 +145,21 @@ InsideIf w None = Unit {0}
 InsideIf w (One p) = SomeOf (Inside p) w
 InsideIf w (More p) = SomeOf (Inside p) w
 
-extended-number : (x : ℕ) → 4 ≤ number (extendedKind x)
+extended-number : (x : ℕ) → 4 ≤ kindNumber (extendedKind x)
 extended-number x = go (eqb x 100) (eqb x 8)
   where
-    go : (a b : Bool) → 4 ≤ number (if a then Parameters else if b then Wrapped else Skipped)
+    go : (a b : Bool) → 4 ≤ kindNumber (if a then Parameters else if b then Wrapped else Skipped)
     go true b = omega arith
     go false true = omega arith
     go false false = omega arith
 
-plain : (s : List ℕ) (e : Element) → Stood s (e .place) e → number (kindOf e) < 4 → e .id ≡ 255 → ⊥
+plain : (s : List ℕ) (e : Element) → Stood s (e .place) e → kindNumber (kindOf e) < 4 → e .id ≡ 255 → ⊥
 plain s e st n h =
     let i : getD s (e .place) 0 ≡ 255 = sym (ap (λ (e : Element). e .id) (st .is)) ∙ h in
     let x : e .extension ≡ Id (getD s (e .place + 2) 0) = ap (λ (e : Element). e .extension) (st .is) ∙ rw (eq-eqb (getD s (e .place) 0) 255 i) in
-    omega (arith, ap (λ (x : Extension). number (kindBy (e .id) x)) x, extended-number (getD s (e .place + 2) 0))
+    omega (arith, ap (λ (x : Extension). kindNumber (kindBy (e .id) x)) x, extended-number (getD s (e .place + 2) 0))
 
-times-inside : (s : List ℕ) (k : Kind) → number k < 4 → (es : List Element) → Each (λ e. Stood s (e .place) e) es
+times-inside : (s : List ℕ) (k : Kind) → kindNumber k < 4 → (es : List Element) → Each (λ e. Stood s (e .place) e) es
     → InsideIf (walked es) (timesOf (ofKind k es))
 times-inside s k n [] h = tt
 times-inside s k n (e ∷ es) h = go (isKind (kindOf e) k) refl (times-inside s k n es (h .1))
@@ -179,7 +179,7 @@ times-inside s k n (e ∷ es) h = go (isKind (kindOf e) k) refl (times-inside s 
         first (ofKind k es) (record {
           start = omega arith;
           next = omega arith;
-          extended = λ x. absurd (plain s e (h .0) (omega (arith, eqb-true (number (kindOf e)) (number k) q)) x);
+          extended = λ x. absurd (plain s e (h .0) (omega (arith, eqb-true (kindNumber (kindOf e)) (kindNumber k) q)) x);
         })
     go false q i = later (timesOf (ofKind k es)) i
 

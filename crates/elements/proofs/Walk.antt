@@ -6,11 +6,11 @@ use native.Mathlib.Omega.{arith}
 use lib.ListN.{length, take, drop, take-append-drop, drop-of-length-le}
 use lib.Seq.{drop-drop}
 use Rattle.elements.specs.declared.Element.{Element}
-use Rattle.elements.specs.declared.Step.{Step}
-use Rattle.elements.specs.declared.Step.the-variants.{Stands, End, Failed}
-use Rattle.elements.specs.Step.{stepAt}
-use Rattle.elements.specs.Walk.{Walk, walked, failedAt, _then_, onward, steps, walk}
-use Rattle.elements.proofs.Steps.{Stood, stood, ended, stands-append}
+use Rattle.elements.specs.declared.Met.{Met}
+use Rattle.elements.specs.declared.Met.the-variants.{Stands, End, Failed}
+use Rattle.elements.specs.Met.{metAt}
+use Rattle.elements.specs.Walk.{Walk, walked, failedAt, _then_, onward, walkFor, walk}
+use Rattle.elements.proofs.Standing.{Stood, stood, ended, stands-append}
 
 pub then-none : (w : Walk) → [] then w ≡ w
 then-none (walked es) = refl
@@ -21,14 +21,14 @@ then-then es fs (walked gs) = ap walked (append-assoc es fs gs)
 then-then es fs (failedAt place) = refl
 
 -- any number of steps above the octets that are left gives the same walk
-enough : (f g : ℕ) (s : List ℕ) (at : ℕ) → length s - at < f → length s - at < g → steps f s at ≡ steps g s at
-unfolding steps
+enough : (f g : ℕ) (s : List ℕ) (at : ℕ) → length s - at < f → length s - at < g → walkFor f s at ≡ walkFor g s at
+unfolding walkFor
 enough zero g s at h k = absurd (omega arith)
 enough (suc f) zero s at h k = absurd (omega arith)
-enough (suc f) (suc g) s at h k = go (λ m p q. enough f g s m p q) (stepAt s at) refl
+enough (suc f) (suc g) s at h k = go (λ m p q. enough f g s m p q) (metAt s at) refl
   where
-    go : ((m : ℕ) → length s - m < f → length s - m < g → steps f s m ≡ steps g s m) → (st : Step) → stepAt s at ≡ st
-        → onward (steps f s) at st ≡ onward (steps g s) at st
+    go : ((m : ℕ) → length s - m < f → length s - m < g → walkFor f s m ≡ walkFor g s m) → (st : Met) → metAt s at ≡ st
+        → onward (walkFor f s) at st ≡ onward (walkFor g s) at st
     go ih (Stands e) q =
         let st = stood s at e q in
         ap (λ (w : Walk). (e ∷ []) then w) (ih (e .next) (omega arith) (omega arith))
@@ -36,30 +36,30 @@ enough (suc f) (suc g) s at h k = go (λ m p q. enough f g s m p q) (stepAt s at
     go ih Failed q = refl
 
 module _ (s : List ℕ) (at : ℕ) where
-  pub walk-stands : (e : Element) → stepAt s at ≡ Stands e → walk s at ≡ (e ∷ []) then walk s (e .next)
-  unfolding walk steps
+  pub walk-stands : (e : Element) → metAt s at ≡ Stands e → walk s at ≡ (e ∷ []) then walk s (e .next)
+  unfolding walk walkFor
   walk-stands e q =
       let st = stood s at e q in
-      ap (onward (steps (length s) s) at) q
+      ap (onward (walkFor (length s) s) at) q
       ∙ ap (λ (w : Walk). (e ∷ []) then w) (enough (length s) (suc (length s)) s (e .next) (omega arith) (omega arith))
 
-  pub walk-ends : stepAt s at ≡ End → walk s at ≡ walked []
-  unfolding walk steps
-  walk-ends q = ap (onward (steps (length s) s) at) q
+  pub walk-ends : metAt s at ≡ End → walk s at ≡ walked []
+  unfolding walk walkFor
+  walk-ends q = ap (onward (walkFor (length s) s) at) q
 
-  pub walk-fails : stepAt s at ≡ Failed → walk s at ≡ failedAt at
-  unfolding walk steps
-  walk-fails q = ap (onward (steps (length s) s) at) q
+  pub walk-fails : metAt s at ≡ Failed → walk s at ≡ failedAt at
+  unfolding walk walkFor
+  walk-fails q = ap (onward (walkFor (length s) s) at) q
 
 -- What holds where the walk ends and where it fails, and of an element and the rest if of the rest, holds of the walk.
-module _ (s : List ℕ) (P : ℕ → Walk → Type 0) (at-end : (at : ℕ) → stepAt s at ≡ End → P at (walked []))
-    (at-failure : (at : ℕ) → stepAt s at ≡ Failed → P at (failedAt at))
-    (at-element : (at : ℕ) (e : Element) → stepAt s at ≡ Stands e → P (e .next) (walk s (e .next)) → P at ((e ∷ []) then walk s (e .next))) where
+module _ (s : List ℕ) (P : ℕ → Walk → Type 0) (at-end : (at : ℕ) → metAt s at ≡ End → P at (walked []))
+    (at-failure : (at : ℕ) → metAt s at ≡ Failed → P at (failedAt at))
+    (at-element : (at : ℕ) (e : Element) → metAt s at ≡ Stands e → P (e .next) (walk s (e .next)) → P at ((e ∷ []) then walk s (e .next))) where
   bounded : (f at : ℕ) → length s - at < f → P at (walk s at)
   bounded zero at h = absurd (omega arith)
-  bounded (suc f) at h = go (λ m k. bounded f m k) (stepAt s at) refl
+  bounded (suc f) at h = go (λ m k. bounded f m k) (metAt s at) refl
     where
-      go : ((m : ℕ) → length s - m < f → P m (walk s m)) → (st : Step) → stepAt s at ≡ st → P at (walk s at)
+      go : ((m : ℕ) → length s - m < f → P m (walk s m)) → (st : Met) → metAt s at ≡ st → P at (walk s at)
       go ih (Stands e) q =
           let st = stood s at e q in
           subst (P at) (sym (walk-stands s at e q)) (at-element at e q (ih (e .next) (omega arith)))
@@ -86,7 +86,7 @@ each-stood s = walk-induction s (λ at w. EachOf (λ e. Stood s (e .place) e) w)
     one-more e (walked es) st h = (st, h)
     one-more e (failedAt place) st h = tt
 
-    at-element : (at : ℕ) (e : Element) → stepAt s at ≡ Stands e → EachOf (λ e. Stood s (e .place) e) (walk s (e .next))
+    at-element : (at : ℕ) (e : Element) → metAt s at ≡ Stands e → EachOf (λ e. Stood s (e .place) e) (walk s (e .next))
         → EachOf (λ e. Stood s (e .place) e) ((e ∷ []) then walk s (e .next))
     at-element at e q h =
         let st = stood s at e q in
@@ -105,7 +105,7 @@ Laid s at (failedAt place) = Unit {0}
 pub laid-out : (s : List ℕ) (at : ℕ) (es : List Element) → walk s at ≡ walked es → at ≤ length s → laid s es ≡ drop at s
 laid-out s at es q = subst (Laid s at) q (walk-induction s (Laid s) at-end (λ at q. tt) at-element at)
   where
-    at-end : (at : ℕ) → stepAt s at ≡ End → Laid s at (walked [])
+    at-end : (at : ℕ) → metAt s at ≡ End → Laid s at (walked [])
     at-end at q h = sym (drop-of-length-le s (ended s at q))
 
     one-more : (at : ℕ) (e : Element) (w : Walk) → Stood s at e → Laid s (e .next) w → Laid s at ((e ∷ []) then w)
@@ -114,7 +114,7 @@ laid-out s at es q = subst (Laid s at) q (walk-induction s (Laid s) at-end (λ a
         rw (st .place, h (st .within)) (ap (λ (k : ℕ). take (e .next - at) (drop at s) ++ drop k s) (sym n) ∙ ap (λ (l : List ℕ). take (e .next - at) (drop at s) ++ l) (sym (drop-drop (e .next - at) at s)) ∙ take-append-drop (e .next - at) (drop at s))
     one-more at e (failedAt place) st h = tt
 
-    at-element : (at : ℕ) (e : Element) → stepAt s at ≡ Stands e → Laid s (e .next) (walk s (e .next)) → Laid s at ((e ∷ []) then walk s (e .next))
+    at-element : (at : ℕ) (e : Element) → metAt s at ≡ Stands e → Laid s (e .next) (walk s (e .next)) → Laid s at ((e ∷ []) then walk s (e .next))
     at-element at e q h = one-more at e (walk s (e .next)) (stood s at e q) h
 
 -- Where a walks to its end, a ++ b walks through the same elements and on from there.
@@ -126,12 +126,12 @@ pub walk-append : (a b : List ℕ) (at : ℕ) (es : List Element) → walk a at 
     → walk (a ++ b) at ≡ es then walk (a ++ b) (length a)
 walk-append a b at es q = subst (Through a b at) q (walk-induction a (Through a b) at-end (λ at q. tt) at-element at)
   where
-    at-end : (at : ℕ) → stepAt a at ≡ End → Through a b at (walked [])
+    at-end : (at : ℕ) → metAt a at ≡ End → Through a b at (walked [])
     at-end at q h =
         let n : at ≡ length a = omega (arith, ended a at q) in
         ap (walk (a ++ b)) n ∙ sym (then-none (walk (a ++ b) (length a)))
 
-    one-more : (at : ℕ) (e : Element) (w : Walk) → stepAt a at ≡ Stands e → Through a b (e .next) w → Through a b at ((e ∷ []) then w)
+    one-more : (at : ℕ) (e : Element) (w : Walk) → metAt a at ≡ Stands e → Through a b (e .next) w → Through a b at ((e ∷ []) then w)
     one-more at e (walked es) q h = λ k.
         let st = stood a at e q in
         walk-stands (a ++ b) at e (stands-append a b at e q)
@@ -139,6 +139,6 @@ walk-append a b at es q = subst (Through a b at) q (walk-induction a (Through a 
         ∙ sym (then-then (e ∷ []) es (walk (a ++ b) (length a)))
     one-more at e (failedAt place) q h = tt
 
-    at-element : (at : ℕ) (e : Element) → stepAt a at ≡ Stands e → Through a b (e .next) (walk a (e .next))
+    at-element : (at : ℕ) (e : Element) → metAt a at ≡ Stands e → Through a b (e .next) (walk a (e .next))
         → Through a b at ((e ∷ []) then walk a (e .next))
     at-element at e q h = one-more at e (walk a (e .next)) q h

@@ -10,10 +10,10 @@ use Rattle.octets.specs.Choice.{if_then_else_}
 use Rattle.elements.specs.declared.Extension.the-variants.{Id, Absent}
 use Rattle.elements.specs.declared.Element.{Element}
 use Rattle.elements.specs.declared.Part.{Part}
-use Rattle.elements.specs.declared.Step.the-variants.{Stands}
-use Rattle.elements.specs.Step.{stepAt}
+use Rattle.elements.specs.declared.Met.the-variants.{Stands}
+use Rattle.elements.specs.Met.{metAt}
 use Rattle.elements.specs.Walk.{Walk, walked, _then_, walk}
-use Rattle.elements.proofs.Steps.{stands, ends}
+use Rattle.elements.proofs.Standing.{stands, ends}
 use Rattle.elements.proofs.Walk.{walk-stands, walk-ends, walk-append}
 
 -- the element of an ID and a content, by its place and the part that the content occupies
@@ -29,7 +29,7 @@ element id content place p = record {
 
 -- An element written at the end of a string stands there, and, by `stands-append`, where more follows it too.
 pub written-stands : (before content : List ℕ) (id : ℕ) → (id ≡ 255 → 0 < length content)
-    → stepAt (before ++ (id ∷ length content ∷ content)) (length before)
+    → metAt (before ++ (id ∷ length content ∷ content)) (length before)
     ≡ Stands (element id content (length before) (record { start = length before + 2; end = length before + 2 + length content }))
 written-stands before content id extended =
     let w : List ℕ = id ∷ length content ∷ content in

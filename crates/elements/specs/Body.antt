@@ -9,6 +9,10 @@ use Rattle.elements.specs.declared.Header.{Header}
 use Rattle.elements.specs.declared.Opened.{Opened}
 use Rattle.elements.specs.declared.Opened.the-variants.{Body, NoBody}
 
+-- the algorithm number of PASN
+abbrev pub pasn : ℕ
+pasn = 7
+
 abbrev pub headerOf : List ℕ → Header
 headerOf s = record { algorithm = le 2 s 0; transaction = le 2 s 2; status = le 2 s 4 }
 

@@ -1,5 +1,5 @@
 pub mod Body
-pub mod Step
+pub mod Met
 pub mod Walk
 pub mod Scan
 pub mod Noting

@@ -39,17 +39,18 @@ kindBy id Absent = plainKind id
 abbrev pub kindOf : Element → Kind
 kindOf e = kindBy (e .id) (e .extension)
 
-abbrev pub number : Kind → ℕ
-number Rsne = 0
-number Timeout = 1
-number Mic = 2
-number Fragment = 3
-number Parameters = 4
-number Wrapped = 5
-number Skipped = 6
+-- a number for each kind, to compare them by
+abbrev pub kindNumber : Kind → ℕ
+kindNumber Rsne = 0
+kindNumber Timeout = 1
+kindNumber Mic = 2
+kindNumber Fragment = 3
+kindNumber Parameters = 4
+kindNumber Wrapped = 5
+kindNumber Skipped = 6
 
 abbrev pub isKind : Kind → Kind → Bool
-isKind k l = eqb (number k) (number l)
+isKind k l = eqb (kindNumber k) (kindNumber l)
 
 -- those of a kind
 abbrev pub ofKind : Kind → List Element → List Element

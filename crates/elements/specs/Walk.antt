@@ -5,9 +5,9 @@ use lib.Dec.{ltb}
 use lib.ListN.{length}
 use Rattle.octets.specs.Choice.{if_then_else_}
 use Rattle.elements.specs.declared.Element.{Element}
-use Rattle.elements.specs.declared.Step.{Step}
-use Rattle.elements.specs.declared.Step.the-variants.{Stands, End, Failed}
-use Rattle.elements.specs.Step.{stepAt}
+use Rattle.elements.specs.declared.Met.{Met}
+use Rattle.elements.specs.declared.Met.the-variants.{Stands, End, Failed}
+use Rattle.elements.specs.Met.{metAt}
 
 -- what a walk comes to: the elements, or the place of the element that it failed at
 pub data Walk : Type 0 where
@@ -21,20 +21,20 @@ es then walked fs = walked (es ++ fs)
 es then failedAt place = failedAt place
 
 -- the walk at a place, by what stands there; `go` is the walk from a later place
-abbrev pub onward : (ℕ → Walk) → ℕ → Step → Walk
+abbrev pub onward : (ℕ → Walk) → ℕ → Met → Walk
 onward go at (Stands e) = (e ∷ []) then go (e .next)
 onward go at End = walked []
 onward go at Failed = failedAt at
 
 -- the walk from a place, of so many steps at most
-unfoldable pub steps : ℕ → List ℕ → ℕ → Walk
-steps zero s at = failedAt at
-steps (suc more) s at = onward (steps more s) at (stepAt s at)
+unfoldable pub walkFor : ℕ → List ℕ → ℕ → Walk
+walkFor zero s at = failedAt at
+walkFor (suc more) s at = onward (walkFor more s) at (metAt s at)
 
 -- The walk from a place to the end. Each element takes two octets at least, so there are fewer steps than octets, and one more for the end.
 unfoldable pub walk : List ℕ → ℕ → Walk
-unfolding steps
-walk s at = steps (suc (length s)) s at
+unfolding walkFor
+walk s at = walkFor (suc (length s)) s at
 
 -- the walk of a body: its elements begin after six octets
 unfoldable pub walkBody : List ℕ → Walk

@@ -1,9 +1,9 @@
 // The body of an Authentication frame: six octets, then elements.
 ghost use mathlib.Core.Path.{_≡_};
 ghost use Rattle.elements.specs.Body.{bodyOf};
-ghost use Rattle.elements.specs.Step.{stepAt};
+ghost use Rattle.elements.specs.Met.{metAt};
 ghost use Rattle.elements.specs.Walk.{walk};
-ghost use Rattle.elements.specs.Scan.{kindOf, number, plainKind, extendedKind, scanBy, scanOf};
+ghost use Rattle.elements.specs.Scan.{kindOf, kindNumber, plainKind, extendedKind, scanBy, scanOf};
 ghost use Rattle.elements.specs.declared.Times.the-variants.{More};
 ghost use Rattle.elements.specs.Noting.{seenOf, markOf};
 
@@ -11,6 +11,9 @@ ghost use Rattle.elements.specs.Noting.{seenOf, markOf};
 pub const HEADER: usize = 6;
 
 pub const LONGEST_BODY: usize = 1024;
+
+// The Authentication algorithm number of PASN.
+pub const PASN: u16 = 7;
 
 pub struct Header {
     pub algorithm: u16,
@@ -57,29 +60,29 @@ pub struct Element {
 }
 
 // What the walk meets at a place.
-pub enum Step {
+pub enum Met {
     Stands(Element),
     End,
     Failed,
 }
 
-fn step_in(s: &[u8], at: usize) -> Step
-    ensures { λ r. ⌜ r ≡ stepAt (now (s .entry)) at ⌝ }
+fn met_in(s: &[u8], at: usize) -> Met
+    ensures { λ r. ⌜ r ≡ metAt (now (s .entry)) at ⌝ }
 {
     if s.len() <= at {
-        return Step::End;
+        return Met::End;
     }
     if s.len() - at == 1 {
-        return Step::Failed;
+        return Met::Failed;
     }
     let id = s[at];
     let length = s[at + 1] as usize;
     let start = at + 2;
     if s.len() - start < length {
-        return Step::Failed;
+        return Met::Failed;
     }
     if id != 255 {
-        return Step::Stands(Element {
+        return Met::Stands(Element {
             id: id,
             extension: Extension::Absent,
             place: at,
@@ -89,9 +92,9 @@ fn step_in(s: &[u8], at: usize) -> Step
         });
     }
     if length == 0 {
-        return Step::Failed;
+        return Met::Failed;
     }
-    Step::Stands(Element {
+    Met::Stands(Element {
         id: id,
         extension: Extension::Id(s[start]),
         place: at,
@@ -125,18 +128,18 @@ impl<'a> Reader<'a> {
     }
 
     // What the reader meets at its place.
-    pub fn step(self) -> Step
-        ensures { λ r. ⌜ r ≡ stepAt (now (self .entry .body)) (self .entry .at) ⌝ }
+    pub fn met(self) -> Met
+        ensures { λ r. ⌜ r ≡ metAt (now (self .entry .body)) (self .entry .at) ⌝ }
     {
-        step_in(self.body, self.at)
+        met_in(self.body, self.at)
     }
 }
 
 // Every walk goes by this: what a reader of the body meets at a place.
-pub fn step_at(body: &[u8], at: usize) -> Step
-    ensures { λ r. ⌜ r ≡ stepAt (now (body .entry)) at ⌝ }
+pub fn met_at(body: &[u8], at: usize) -> Met
+    ensures { λ r. ⌜ r ≡ metAt (now (body .entry)) at ⌝ }
 {
-    Reader::new(body).moved(at).step()
+    Reader::new(body).moved(at).met()
 }
 
 // The elements that the rules speak of; all others are skipped.
@@ -213,8 +216,8 @@ pub struct Places {
 }
 
 // The numbers serve to compare kinds.
-fn number_of(kind: Kind) -> u8
-    ensures { λ r. ⌜ r ≡ number kind ⌝ }
+fn kind_number(kind: Kind) -> u8
+    ensures { λ r. ⌜ r ≡ kindNumber kind ⌝ }
 {
     match kind {
         Kind::Rsne => 0,
@@ -251,7 +254,7 @@ fn seen(t: Times, content: Part) -> Times
 fn mark(kind: Kind, of: Kind, t: Times, content: Part) -> Times
     ensures { λ r. ⌜ r ≡ markOf kind of t content ⌝ }
 {
-    if number_of(kind) == number_of(of) {
+    if kind_number(kind) == kind_number(of) {
         return seen(t, content);
     }
     t
@@ -274,9 +277,9 @@ fn scan_elements(body: &[u8]) -> Scan
     let mut wrapped = Times::None;
     let mut at = HEADER;
     loop {
-        let step = step_at(body, at);
-        match step {
-            Step::End => {
+        let met = met_at(body, at);
+        match met {
+            Met::End => {
                 return Scan::Walked(Places {
                     rsne: rsne,
                     timeout: timeout,
@@ -286,10 +289,10 @@ fn scan_elements(body: &[u8]) -> Scan
                     wrapped: wrapped,
                 });
             }
-            Step::Failed => {
+            Met::Failed => {
                 return Scan::Failed(at);
             }
-            Step::Stands(e) => {
+            Met::Stands(e) => {
                 let content = Part {
                     start: e.start,
                     end: e.next,

@@ -3,8 +3,8 @@ use elements::Element;
 use elements::Extension;
 use elements::Header;
 use elements::LONGEST_BODY;
+use elements::Met;
 use elements::Opened;
-use elements::Step;
 use libc::STDIN_FILENO;
 use libc::STDOUT_FILENO;
 
@@ -48,16 +48,16 @@ fn put_failure(place: usize) {
 fn list_elements(body: &[u8]) {
     let mut at = elements::HEADER;
     loop {
-        let step = elements::step_at(body, at);
-        match step {
-            Step::End => {
+        let met = elements::met_at(body, at);
+        match met {
+            Met::End => {
                 return;
             }
-            Step::Failed => {
+            Met::Failed => {
                 put_failure(at);
                 return;
             }
-            Step::Stands(e) => {
+            Met::Stands(e) => {
                 put_element(e);
                 at = e.next;
             }

@@ -4,7 +4,7 @@ use native.Mathlib.Omega.{arith}
 use borrow.Author.Needs.{needs}
 use lib.ListN.{length}
 use Rattle.elements.specs.Scan.{placesOf}
-use Rattle.elements.proofs.Steps.{stood}
+use Rattle.elements.proofs.Standing.{stood}
 use Rattle.elements.proofs.Scanning.{Scanned, scanned-none, scanned-more, scanned-all, scanned-failed}
 use Rattle.elements.proofs.scan_elements.Statement.{statement}
 use Rattle.elements.proofs.scan_elements.Tie as tie
@@ -21,8 +21,8 @@ loop-holds : tie.Need-loop-holds Inv-loop μ-loop
 unfolding placesOf
 loop-holds c = scanned-none _ 6
 
-step-at-requires : tie.Need-step-at-requires Inv-loop μ-loop
-step-at-requires c κs = search needs
+met-at-requires : tie.Need-met-at-requires Inv-loop μ-loop
+met-at-requires c κs = search needs
 
 enum-told : tie.Need-enum-told Inv-loop μ-loop
 enum-told c = search needs
@@ -30,7 +30,7 @@ enum-told c = search needs
 returns : tie.Need-returns Inv-loop μ-loop
 returns c =
     let p = c .before .before in
-    sym (scanned-all (p .before .loop .inv) (sym (p .step-at .ensures) ∙ c .enum-told .given .1))
+    sym (scanned-all (p .before .loop .inv) (sym (p .met-at .ensures) ∙ c .enum-told .given .1))
 
 enum-told-2 : tie.Need-enum-told-2 Inv-loop μ-loop
 enum-told-2 c = search needs
@@ -38,10 +38,10 @@ enum-told-2 c = search needs
 returns-2 : tie.Need-returns-2 Inv-loop μ-loop
 returns-2 c =
     let p = c .before .before in
-    sym (scanned-failed (p .before .loop .inv) (sym (p .step-at .ensures) ∙ c .enum-told2 .given .1))
+    sym (scanned-failed (p .before .loop .inv) (sym (p .met-at .ensures) ∙ c .enum-told2 .given .1))
 
-enum-known-step : tie.Need-enum-known-step Inv-loop μ-loop
-enum-known-step c = search needs
+enum-known-met : tie.Need-enum-known-met Inv-loop μ-loop
+enum-known-met c = search needs
 
 kind-of-requires : tie.Need-kind-of-requires Inv-loop μ-loop
 kind-of-requires c κs = search needs
@@ -68,14 +68,14 @@ loop-less : tie.Need-loop-less Inv-loop μ-loop
 loop-less c =
     let p = c .before .before .before .before .before .before .before .before in
     let q = p .before .before in
-    omega (arith, stood (q .before .before .before .args .body .now) (q .before .loop .at) (p .step .given .0 .0) (sym (q .step-at .ensures) ∙ p .step .given .1))
+    omega (arith, stood (q .before .before .before .args .body .now) (q .before .loop .at) (p .met .given .0 .0) (sym (q .met-at .ensures) ∙ p .met .given .1))
 
 loop-again : tie.Need-loop-again Inv-loop μ-loop
 loop-again c =
     let m = c .before .before .before .before .before in
     let p = m .before .before .before in
     let q = p .before .before in
-    scanned-more (q .before .loop .inv) (p .step .given .0 .0) (sym (q .step-at .ensures) ∙ p .step .given .1) (m .before .kind-of .ensures)
+    scanned-more (q .before .loop .inv) (p .met .given .0 .0) (sym (q .met-at .ensures) ∙ p .met .given .1) (m .before .kind-of .ensures)
     (m .mark .ensures) (c .before .before .before .before .mark2 .ensures) (c .before .before .before .mark3 .ensures)
     (c .before .before .mark4 .ensures) (c .before .mark5 .ensures) (c .mark6 .ensures)
 
@@ -86,12 +86,12 @@ scan-elements-spec =
     Inv-loop
     μ-loop
     loop-holds
-    step-at-requires
+    met-at-requires
     enum-told
     returns
     enum-told-2
     returns-2
-    enum-known-step
+    enum-known-met
     kind-of-requires
     mark-requires
     mark-requires-2

@@ -3,7 +3,7 @@ use Prim.Native.Nat.{_-_}
 use native.Mathlib.Omega.{arith}
 use borrow.Author.Needs.{needs}
 use lib.ListN.{length}
-use Rattle.elements.proofs.Steps.{stood}
+use Rattle.elements.proofs.Standing.{stood}
 use Rattle.list.proofs.list_elements.Statement.{statement}
 use Rattle.list.proofs.list_elements.Tie as tie
 
@@ -16,8 +16,8 @@ abbrev μ-loop : tie.MeasureT-loop
 loop-holds : tie.Need-loop-holds Inv-loop μ-loop
 loop-holds c = search needs
 
-step-at-requires : tie.Need-step-at-requires Inv-loop μ-loop
-step-at-requires c κs = search needs
+met-at-requires : tie.Need-met-at-requires Inv-loop μ-loop
+met-at-requires c κs = search needs
 
 enum-told : tie.Need-enum-told Inv-loop μ-loop
 enum-told c = search needs
@@ -34,8 +34,8 @@ put-failure-requires c κs = search needs
 returns-2 : tie.Need-returns-2 Inv-loop μ-loop
 returns-2 c = search needs
 
-enum-known-step : tie.Need-enum-known-step Inv-loop μ-loop
-enum-known-step c = search needs
+enum-known-met : tie.Need-enum-known-met Inv-loop μ-loop
+enum-known-met c = search needs
 
 put-element-requires : tie.Need-put-element-requires Inv-loop μ-loop
 put-element-requires c κs = search needs
@@ -44,7 +44,7 @@ loop-less : tie.Need-loop-less Inv-loop μ-loop
 loop-less c =
     let p = c .before .before in
     let q = p .before .before in
-    omega (arith, stood (q .before .before .before .args .body .now) (q .before .loop .at) (p .step .given .0 .0) (sym (q .step-at .ensures) ∙ p .step .given .1))
+    omega (arith, stood (q .before .before .before .args .body .now) (q .before .loop .at) (p .met .given .0 .0) (sym (q .met-at .ensures) ∙ p .met .given .1))
 
 loop-again : tie.Need-loop-again Inv-loop μ-loop
 loop-again c = search needs
@@ -56,13 +56,13 @@ list-elements-spec =
     Inv-loop
     μ-loop
     loop-holds
-    step-at-requires
+    met-at-requires
     enum-told
     returns
     enum-told-2
     put-failure-requires
     returns-2
-    enum-known-step
+    enum-known-met
     put-element-requires
     loop-less
     loop-again)

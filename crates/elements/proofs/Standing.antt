@@ -1,4 +1,4 @@
--- Laws of one step: what is known of an element that stands at a place, and when one does.
+-- Laws of what the walk meets: what is known of an element that stands at a place, and when one does.
 use mathlib.Core.Path.{_≡_, refl, sym, ap, _∙_}
 use mathlib.Core.Bool.{Bool, true, false, _&&_}
 use mathlib.Core.List.{List, _++_}
@@ -11,8 +11,8 @@ use Rattle.octets.specs.Choice.{if_then_else_}
 use Rattle.elements.specs.declared.Extension.{Extension}
 use Rattle.elements.specs.declared.Extension.the-variants.{Id, Absent}
 use Rattle.elements.specs.declared.Element.{Element}
-use Rattle.elements.specs.declared.Step.the-variants.{Stands, End, Failed}
-use Rattle.elements.specs.Step.{elementAt, stepAt}
+use Rattle.elements.specs.declared.Met.the-variants.{Stands, End, Failed}
+use Rattle.elements.specs.Met.{elementAt, metAt}
 
 -- An element stands at a place of s.
 pub record Stood (s : List ℕ) (at : ℕ) (e : Element) : Type 0 where
@@ -35,7 +35,7 @@ failed-stands q = let z : _≡_ {A = ℕ} 0 1 = cc in omega arith
 failed-end : Failed ≡ End → ⊥
 failed-end q = let z : _≡_ {A = ℕ} 0 1 = cc in omega arith
 
-pub stood : (s : List ℕ) (at : ℕ) (e : Element) → stepAt s at ≡ Stands e → Stood s at e
+pub stood : (s : List ℕ) (at : ℕ) (e : Element) → metAt s at ≡ Stands e → Stood s at e
 stood s at e q =
     go (leb (length s) at) refl (eqb (length s - at) 1) refl (ltb (length s - (at + 2)) (getD s (at + 1) 0)) refl
     (eqb (getD s at 0) 255 && eqb (getD s (at + 1) 0) 0) refl q
@@ -70,7 +70,7 @@ stood s at e q =
 
 -- Two octets and as many as the second says are an element, unless it is an empty one of ID 255.
 pub stands : (s : List ℕ) (at : ℕ) → at + 2 + getD s (at + 1) 0 ≤ length s → (getD s at 0 ≡ 255 → 0 < getD s (at + 1) 0)
-    → stepAt s at ≡ Stands (elementAt s at)
+    → metAt s at ≡ Stands (elementAt s at)
 stands s at h k =
     rw (
       lt-leb (length s) at (omega arith),
@@ -84,11 +84,11 @@ stands s at h k =
     go true false p r = refl
     go false c p r = refl
 
-pub ends : (s : List ℕ) (at : ℕ) → length s ≤ at → stepAt s at ≡ End
+pub ends : (s : List ℕ) (at : ℕ) → length s ≤ at → metAt s at ≡ End
 ends s at h = rw (le-leb (length s) at h)
 
 -- where the walk ends, nothing is left
-pub ended : (s : List ℕ) (at : ℕ) → stepAt s at ≡ End → length s ≤ at
+pub ended : (s : List ℕ) (at : ℕ) → metAt s at ≡ End → length s ≤ at
 ended s at q =
     go (leb (length s) at) refl (eqb (length s - at) 1) (ltb (length s - (at + 2)) (getD s (at + 1) 0))
     (eqb (getD s at 0) 255 && eqb (getD s (at + 1) 0) 0) q
@@ -115,7 +115,7 @@ element-same s t at i n x = rw (i, n) (go (eqb (getD t at 0) 255) refl)
     go false p = refl
 
 -- an element within a is one within a ++ b
-pub stands-append : (a b : List ℕ) (at : ℕ) (e : Element) → stepAt a at ≡ Stands e → stepAt (a ++ b) at ≡ Stands e
+pub stands-append : (a b : List ℕ) (at : ℕ) (e : Element) → metAt a at ≡ Stands e → metAt (a ++ b) at ≡ Stands e
 stands-append a b at e q =
     let st = stood a at e q in
     let n : e .length ≡ getD a (at + 1) 0 = ap (λ (e : Element). e .length) (st .is) in

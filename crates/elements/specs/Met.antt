@@ -7,8 +7,8 @@ use lib.ListN.{length, getD}
 use Rattle.octets.specs.Choice.{if_then_else_}
 use Rattle.elements.specs.declared.Extension.the-variants.{Id, Absent}
 use Rattle.elements.specs.declared.Element.{Element}
-use Rattle.elements.specs.declared.Step.{Step}
-use Rattle.elements.specs.declared.Step.the-variants.{Stands, End, Failed}
+use Rattle.elements.specs.declared.Met.{Met}
+use Rattle.elements.specs.declared.Met.the-variants.{Stands, End, Failed}
 
 -- the element whose ID stands at a place
 abbrev pub elementAt : List ℕ → ℕ → Element
@@ -22,8 +22,8 @@ elementAt s at = record {
 }
 
 -- The walk ends where nothing is left. It fails if a single octet is left over, the element runs past the end, or ID 255 has length 0.
-abbrev pub stepAt : List ℕ → ℕ → Step
-stepAt s at =
+abbrev pub metAt : List ℕ → ℕ → Met
+metAt s at =
     if leb (length s) at then End
     else if eqb (length s - at) 1 then Failed
     else if ltb (length s - (at + 2)) (getD s (at + 1) 0) then Failed

@@ -2,8 +2,8 @@ use borrow.Author.Tests.{le-ltb, lt-ltb, le-leb, lt-leb, eq-eqb, ne-eqb}
 use native.Mathlib.Omega.{arith}
 use Prim.Native.Nat.{_+_}
 use borrow.Author.Needs.{needs}
-use Rattle.elements.proofs.step_in.Statement.{statement}
-use Rattle.elements.proofs.step_in.Tie as tie
+use Rattle.elements.proofs.met_in.Statement.{statement}
+use Rattle.elements.proofs.met_in.Tie as tie
 
 returns : tie.Need-returns
 returns c = simp (le-leb _ _ (c .if1 .taken))
@@ -53,8 +53,8 @@ add-t8 c = search needs
 returns-6 : tie.Need-returns-6
 returns-6 c = simp (lt-leb _ _ (c .before .before .before .before .before .before .before .if1 .left), ne-eqb _ _ (c .before .before .before .before .before .before .if2 .left), le-ltb _ _ (c .before .before .before .if3 .left), eq-eqb _ _ (c .before .before .if4 .left), ne-eqb _ _ (c .before .if5 .left))
 
-pub step-in-spec : {M : Type 1} → statement M
-step-in-spec =
+pub met-in-spec : {M : Type 1} → statement M
+met-in-spec =
     tie.close
     (tie.spec
     returns

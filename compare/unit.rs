@@ -3,7 +3,7 @@
 use crate::records::cipher_flags;
 use crate::responder::{Address, Answer, Arrival, Phase, Record, Seconds, Tu};
 use crate::sides::{Place, Received, Side};
-use core::mem::size_of;
+use core::mem::{size_of, MaybeUninit};
 
 #[repr(C)]
 #[derive(Clone, Copy)]
@@ -14,6 +14,7 @@ struct HostRecord {
     phase: u8,
     cipher: u8,
     akm: u8,
+    unused: [u8; 2],
     lifetime_seconds: u32,
     until_tu: u64,
 }
@@ -52,15 +53,15 @@ struct ReceiveResult {
 }
 
 #[repr(C)]
-pub struct LookUpResult {
-    pub answer: u8,
-    shown: HostRecord,
-}
-
-#[repr(C)]
 struct KeyPlace {
     start: usize,
     length: usize,
+}
+
+/// What a look-up tells: its answer, and the record that it wrote.
+pub struct LookedUp {
+    pub answer: u8,
+    shown: HostRecord,
 }
 
 const _: () = assert!(size_of::<HostRecord>() == 40 && size_of::<State>() == 648);
@@ -68,7 +69,7 @@ const _: () = assert!(size_of::<HostCall>() == 32 && size_of::<ReceiveResult>() 
 
 // A slice crosses as two words, its pointer and its length.
 extern "C" {
-    fn galebeacon_empty() -> State;
+    fn galebeacon_empty(state: *mut State);
     fn galebeacon_receive(
         state: &mut State,
         call: HostCall,
@@ -83,7 +84,12 @@ extern "C" {
         reply: *mut u8,
         reply_length: usize,
     ) -> ReceiveResult;
-    fn galebeacon_look_up(state: &State, address: &[u8; 6], reading_tu: u64) -> LookUpResult;
+    fn galebeacon_look_up(
+        state: &State,
+        address: &[u8; 6],
+        reading_tu: u64,
+        shown: *mut HostRecord,
+    ) -> u8;
     fn galebeacon_remove(state: &mut State, address: &[u8; 6], reading_tu: u64) -> u8;
     fn galebeacon_show_key(body: *const u8, body_length: usize) -> KeyPlace;
     fn galebeacon_zero_mic(
@@ -145,8 +151,12 @@ impl HostRecord {
 
 impl Unit {
     pub fn new() -> Unit {
-        // SAFETY: the archive's function takes nothing.
-        let state = unsafe { galebeacon_empty() };
+        let mut state = MaybeUninit::uninit();
+        // SAFETY: every octet of the state is written.
+        let state = unsafe {
+            galebeacon_empty(state.as_mut_ptr());
+            state.assume_init()
+        };
         Unit { state }
     }
 
@@ -178,9 +188,15 @@ impl Unit {
         }
     }
 
-    pub fn look(&self, now: Tu, address: &Address) -> LookUpResult {
-        // SAFETY: the address is six octets.
-        unsafe { galebeacon_look_up(&self.state, address, now.0) }
+    pub fn look(&self, now: Tu, address: &Address) -> LookedUp {
+        let mut shown = MaybeUninit::uninit();
+        // SAFETY: the address is six octets, and every octet of the record is written, beside any answer.
+        unsafe {
+            LookedUp {
+                answer: galebeacon_look_up(&self.state, address, now.0, shown.as_mut_ptr()),
+                shown: shown.assume_init(),
+            }
+        }
     }
 }
 

@@ -21,12 +21,13 @@ static void print_octets(const char *name, const uint8_t *octets, size_t length)
 }
 
 static void look_up(const galebeacon_state *state, uint64_t reading_tu, unsigned wanted) {
-    galebeacon_look_up_result r = galebeacon_look_up(state, station, reading_tu);
-    expect("look up", r.answer, wanted);
-    if (r.answer == GALEBEACON_SHOWN)
+    galebeacon_record shown;
+    unsigned answer = galebeacon_look_up(state, station, reading_tu, &shown);
+    expect("look up", answer, wanted);
+    if (answer == GALEBEACON_SHOWN)
         printf("    %s, cipher %u, AKM %u, %s, %lu seconds, until %llu TU\n",
-               r.shown.phase == GALEBEACON_WAITING ? "waiting" : "installed", r.shown.cipher, r.shown.akm,
-               r.shown.has_pmkid ? "with a PMKID" : "no PMKID", (unsigned long)r.shown.lifetime_seconds, (unsigned long long)r.shown.until_tu);
+               shown.phase == GALEBEACON_WAITING ? "waiting" : "installed", shown.cipher, shown.akm,
+               shown.has_pmkid ? "with a PMKID" : "no PMKID", (unsigned long)shown.lifetime_seconds, (unsigned long long)shown.until_tu);
 }
 
 /* The first frame is answered by the second. No MIC is lent with it: a slice of no octets still has a pointer. */
@@ -63,7 +64,8 @@ static void refused(galebeacon_state *state, uint64_t reading_tu, uint8_t *reply
 
 int main(void) {
     static uint8_t reply[GALEBEACON_SMALLEST_REPLY];
-    galebeacon_state state = galebeacon_empty();
+    galebeacon_state state;
+    galebeacon_empty(&state);
     look_up(&state, 4000, GALEBEACON_NO_RECORD);
     refused(&state, 4500, reply, sizeof reply);
     first(&state, reply, sizeof reply);

@@ -18,6 +18,7 @@ static const volatile uint8_t *top;
 /* what the operations are called with, away from the painted stack */
 static galebeacon_state state;
 static galebeacon_call call;
+static galebeacon_record shown;
 static uint8_t reply[GALEBEACON_SMALLEST_REPLY], copy[sizeof third_frame];
 
 static void on_painted(void) {
@@ -42,7 +43,7 @@ static size_t depth_of(unsigned (*measured)(void)) {
 }
 
 static unsigned empty(void) {
-    state = galebeacon_empty();
+    galebeacon_empty(&state);
     return 0;
 }
 
@@ -56,7 +57,7 @@ static unsigned receive_cut(void) { return receive(first_frame, sizeof first_fra
 
 static unsigned receive_third(void) { return receive(third_frame, sizeof third_frame); }
 
-static unsigned look_up(void) { return galebeacon_look_up(&state, station, call.reading_tu).answer; }
+static unsigned look_up(void) { return galebeacon_look_up(&state, station, call.reading_tu, &shown); }
 
 static unsigned remove_station(void) { return galebeacon_remove(&state, station, call.reading_tu); }
 

@@ -16,13 +16,13 @@
  *
  * Every call with memory as below is allowed: wrong input gets an answer, and each operation returns. What the answers mean is proved.
  *
- * Memory. No operation allocates, waits, or keeps anything between calls, its pointers included: the state is a plain value that the caller keeps, may copy,
- * and lends. Two threads may be in an operation at once if neither writes what the other was lent. The archive
- * calls memcpy and memset and nothing else. Where it was measured (examples/run stack) the deepest call took 2,615 octets of stack, copies of the state included: allow GALEBEACON_STACK.
+ * Memory. No operation allocates, waits, or keeps anything between calls, its pointers included: the state is a string of octets that the caller keeps, may copy,
+ * and lends, and that is read and changed where it stands. Two threads may be in an operation at once if neither writes what the other was lent. The archive
+ * calls no function but memcpy and memset. Where it was measured (examples/run stack) the deepest call took 1,231 octets of stack: allow GALEBEACON_STACK.
  *
  * Slices. A buffer crosses as two arguments: a pointer to its first octet, then its length in octets. The pointer is never null, also where the length is 0.
- * The pointer to an address leads to 6 octets, the one to a state to a galebeacon_state; neither is null. What an operation writes to (its pointer is not const)
- * must not overlap anything else that is lent to that call. What is only read may overlap.
+ * The pointer to an address leads to 6 octets, the one to a state to a galebeacon_state, the one to a record to a galebeacon_record; none is null. What an
+ * operation writes to (its pointer is not const) must not overlap anything else that is lent to that call. What is only read may overlap.
  *
  * Units. A name ends in _seconds or in _tu. A TU is 1,024 microseconds. The clock counts TU, may stand still between calls, and never goes back.
  */
@@ -85,19 +85,21 @@ typedef struct galebeacon_record {
     uint8_t phase;             /* 0 waiting for the third frame; anything else installed, written 1 */
     uint8_t cipher;            /* pairwise cipher suite type: 4, 8, 9 or 10 */
     uint8_t akm;               /* AKM suite type: 5, 6, 8 or 21 */
+    uint8_t unused[2];         /* written 0 */
     uint32_t lifetime_seconds; /* how long the key is good for, from its installation on */
     uint64_t until_tu;         /* waiting: the deadline for the third frame; installed: the end of the key */
 } galebeacon_record;
 
-/* What a unit keeps. Any octets are a legal state; galebeacon_empty gives the one to start with. In which place a record stands means nothing:
-   use galebeacon_look_up. */
+/* What a unit keeps: 648 octets with no gap, numbers low octet first, of which these structs are a view. They may be kept in flash and read back by an archive
+   of the same layout; the clock must then go on from latest_tu. Any octets are a legal state; galebeacon_empty writes those to start with. In which place
+   a record stands means nothing: use galebeacon_look_up. */
 typedef struct galebeacon_state {
-    galebeacon_record records[16];
+    galebeacon_record records[GALEBEACON_RECORDS];
     uint64_t latest_tu; /* the latest clock reading; an earlier one is answered 1 */
 } galebeacon_state;
 
-/* No record, latest reading 0. */
-galebeacon_state galebeacon_empty(void);
+/* No record, latest reading 0, whatever stood there before. */
+void galebeacon_empty(galebeacon_state *state);
 
 /* ---- Receive ---------------------------------------------------------------------------------------------------------------------------- */
 
@@ -131,7 +133,7 @@ typedef struct galebeacon_receive_result {
 } galebeacon_receive_result;
 
 /*
- * A frame came in. The state that is lent becomes the one that the call leaves.
+ * A frame came in.
  *
  *   cache   the PMKs that the unit has: up to 64 records of 28 octets. Each is 31 hex, 19 hex, 00, the PMKID (16 octets), the AKM suite type (1) and the
  *           end (8 octets, low octet first, in TU). No octets: no PMK.
@@ -168,13 +170,9 @@ galebeacon_receive_result galebeacon_receive(
 
 /* ---- Look up and remove ----------------------------------------------------------------------------------------------------------------- */
 
-typedef struct galebeacon_look_up_result {
-    uint8_t answer;          /* 18 shown; 17 no live record; 1 clock; 4 group address */
-    galebeacon_record shown; /* the record beside 18; zeros beside any other answer */
-} galebeacon_look_up_result;
-
-/* The live record of a station. A look-up changes nothing, the latest reading included. */
-galebeacon_look_up_result galebeacon_look_up(const galebeacon_state *state, const uint8_t *address, uint64_t reading_tu);
+/* The live record of a station. 18 shown; 17 no live record; 1 clock; 4 group address. `shown` becomes the record beside 18, and zeros beside any other answer.
+   A look-up changes nothing in the state, the latest reading included. */
+uint8_t galebeacon_look_up(const galebeacon_state *state, const uint8_t *address, uint64_t reading_tu, galebeacon_record *shown);
 
 /* The record of a station goes, waiting or installed. 16 removed; 17 no live record; 1 clock; 4 group address. Beside 1 and 4 the state is as it was. */
 uint8_t galebeacon_remove(galebeacon_state *state, const uint8_t *address, uint64_t reading_tu);
@@ -208,14 +206,32 @@ uint8_t galebeacon_set_mic(uint8_t *body, size_t body_length, const uint8_t *mic
 #else
 #define GALEBEACON_ASSERT(name, fact) typedef char galebeacon_assert_##name[(fact) ? 1 : -1]
 #endif
+#define GALEBEACON_SIZE(type, size) GALEBEACON_ASSERT(type, sizeof(galebeacon_##type) == (size))
+#define GALEBEACON_AT(type, field, place) GALEBEACON_ASSERT(type##_##field, offsetof(galebeacon_##type, field) == (place))
 GALEBEACON_ASSERT(size_t, sizeof(size_t) == 8);
-GALEBEACON_ASSERT(record, sizeof(galebeacon_record) == 40 && offsetof(galebeacon_record, pmkid) == 7 && offsetof(galebeacon_record, lifetime_seconds) == 28 && offsetof(galebeacon_record, until_tu) == 32);
-GALEBEACON_ASSERT(state, sizeof(galebeacon_state) == 648 && offsetof(galebeacon_state, latest_tu) == 640);
-GALEBEACON_ASSERT(settings, sizeof(galebeacon_settings) == 16 && offsetof(galebeacon_settings, lifetime_seconds) == 4);
-GALEBEACON_ASSERT(call, sizeof(galebeacon_call) == 32 && offsetof(galebeacon_call, point_valid) == 30);
-GALEBEACON_ASSERT(receive_result, sizeof(galebeacon_receive_result) == 16 && offsetof(galebeacon_receive_result, status) == 2 && offsetof(galebeacon_receive_result, length) == 8);
-GALEBEACON_ASSERT(look_up_result, sizeof(galebeacon_look_up_result) == 48 && offsetof(galebeacon_look_up_result, shown) == 8);
-GALEBEACON_ASSERT(key_place, sizeof(galebeacon_key_place) == 16);
+GALEBEACON_SIZE(record, 40);
+GALEBEACON_AT(record, address, 0);
+GALEBEACON_AT(record, has_pmkid, 6);
+GALEBEACON_AT(record, pmkid, 7);
+GALEBEACON_AT(record, phase, 23);
+GALEBEACON_AT(record, cipher, 24);
+GALEBEACON_AT(record, akm, 25);
+GALEBEACON_AT(record, unused, 26);
+GALEBEACON_AT(record, lifetime_seconds, 28);
+GALEBEACON_AT(record, until_tu, 32);
+GALEBEACON_SIZE(state, 648);
+GALEBEACON_AT(state, records, 0);
+GALEBEACON_AT(state, latest_tu, 640);
+GALEBEACON_SIZE(settings, 16);
+GALEBEACON_AT(settings, lifetime_seconds, 4);
+GALEBEACON_SIZE(call, 32);
+GALEBEACON_AT(call, point_valid, 30);
+GALEBEACON_SIZE(receive_result, 16);
+GALEBEACON_AT(receive_result, status, 2);
+GALEBEACON_AT(receive_result, length, 8);
+GALEBEACON_SIZE(key_place, 16);
+#undef GALEBEACON_SIZE
+#undef GALEBEACON_AT
 #undef GALEBEACON_ASSERT
 
 #ifdef __cplusplus

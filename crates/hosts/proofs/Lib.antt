@@ -1,4 +1,0 @@
-pub mod Cases
-pub mod Mapping
-pub mod Crossed
-pub mod Kept

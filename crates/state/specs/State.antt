@@ -1,0 +1,52 @@
+-- The octets that a host keeps: sixteen records, and the latest reading in 8 octets behind them. Any octets are a table.
+use Prim.Native.Nat.{ℕ, _+_, _*_, _<_}
+use mathlib.Core.Path.{_≡_}
+use mathlib.Core.List.{List, map}
+use lib.ListN.{getD, set}
+use Rattle.octets.specs.Numbers.{le}
+use Rattle.octets.specs.Pieces.{pieces}
+use Rattle.units.specs.declared.Tu.{Tu}
+use Rattle.peers.specs.declared.Found.{Found}
+use Rattle.peers.specs.declared.Found.the-variants.{At, Free, Full}
+use Rattle.peers.specs.declared.Peer.{Peer}
+use Rattle.peers.specs.declared.Table.{Table}
+use Rattle.peers.specs.View.{vacantPeer, noPeer}
+use Rattle.state.specs.Record.{recordSize, peerOf}
+
+abbrev pub latestAt : ℕ
+latestAt = 16 * recordSize
+
+-- how many octets a state has
+abbrev pub stateSize : ℕ
+stateSize = latestAt + 8
+
+-- the table that a state is
+unfoldable pub tableOf : List ℕ → Table
+tableOf s = record { peers = map peerOf (pieces recordSize 16 s); latest = record { 0 = le 8 s latestAt } }
+
+-- the i-th record of it
+abbrev pub place : List ℕ → ℕ → Peer
+place s i = getD (tableOf s .peers) i noPeer
+
+-- the record at a place that a search found, one of sixteen, or the vacant one where it found none
+abbrev pub IsPlace : Found → Type 0
+IsPlace (At i) = i < 16
+IsPlace Free = Unit
+IsPlace Full = Unit
+
+abbrev pub foundPeer : List ℕ → Found → Peer
+foundPeer s (At i) = place s i
+foundPeer s Free = vacantPeer
+foundPeer s Full = vacantPeer
+
+-- a table with another i-th record, and with another latest reading
+abbrev pub stored : Table → ℕ → Peer → Table
+stored t i p = record { peers = set (t .peers) i p; latest = t .latest }
+
+abbrev pub dated : Table → Tu → Table
+dated t n = record { peers = t .peers; latest = n }
+
+-- The latest reading of a state becomes n. Where it was n already, every octet stays.
+pub record Redates (s : List ℕ) (n : Tu) (s' : List ℕ) : Type 0 where
+  pub table : tableOf s' ≡ dated (tableOf s) n
+  pub same : n ≡ tableOf s .latest → s' ≡ s

@@ -62,6 +62,15 @@ static void refused(galebeacon_state *state, uint64_t reading_tu, uint8_t *reply
     print_octets("the refusal", reply, r.length);
 }
 
+/* A unit that starts again: the octets of its state were kept in flash, and are read back. */
+static void restart(galebeacon_state *state) {
+    static uint8_t flash[sizeof *state];
+    memcpy(flash, state, sizeof flash);
+    memset(state, 0xff, sizeof *state);
+    memcpy(state, flash, sizeof flash);
+    printf("start again with the state kept\n");
+}
+
 int main(void) {
     static uint8_t reply[GALEBEACON_SMALLEST_REPLY];
     galebeacon_state state;
@@ -70,6 +79,7 @@ int main(void) {
     refused(&state, 4500, reply, sizeof reply);
     first(&state, reply, sizeof reply);
     look_up(&state, 5000, GALEBEACON_SHOWN);
+    restart(&state);
     third(&state, 5003, reply, sizeof reply, GALEBEACON_INSTALLED);
     look_up(&state, 5003, GALEBEACON_SHOWN);
     third(&state, 5004, reply, sizeof reply, GALEBEACON_NO_EXCHANGE);

@@ -6,7 +6,7 @@ use lib.ListN.{replicate}
 use Rattle.octets.specs.Numbers.{le, octets}
 use Rattle.peers.specs.declared.Peer.{Peer}
 use Rattle.peers.specs.declared.Phase.the-variants.{Waiting, Installed}
-use Rattle.state.specs.Record.{lifetimeAt, untilAt, recordSize, isYes, yesNumber, phaseOf, phaseNumber, peerOf, headOf, octetsOf}
+use Rattle.state.specs.Record.{addressAt, hasPmkidAt, pmkidAt, phaseAt, cipherAt, akmAt, unusedAt, lifetimeAt, untilAt, recordSize, isYes, yesNumber, phaseOf, phaseNumber, peerOf, headOf, octetsOf}
 use Rattle.state.specs.State.{latestAt, stateSize}
 
 pub zero-is-no : isYes 0 ≡ false
@@ -27,11 +27,9 @@ any-other-is-installed = refl
 pub installed-is-told-as-1 : phaseNumber (Installed (record { 0 = 6000 })) ≡ 1
 installed-is-told-as-1 = refl
 
-pub lifetime-at-28 : lifetimeAt ≡ 28
-lifetime-at-28 = refl
-
-pub until-at-32 : untilAt ≡ 32
-until-at-32 = refl
+pub where-fields-begin : addressAt ∷ hasPmkidAt ∷ pmkidAt ∷ phaseAt ∷ cipherAt ∷ akmAt ∷ unusedAt ∷ lifetimeAt ∷ untilAt ∷ []
+    ≡ 0 ∷ 6 ∷ 7 ∷ 23 ∷ 24 ∷ 25 ∷ 26 ∷ 28 ∷ 32 ∷ []
+where-fields-begin = refl
 
 pub record-of-40 : recordSize ≡ 40
 record-of-40 = refl

@@ -1,4 +1,4 @@
--- A record in octets: any octets are a record, and a record is told in octets. Numbers are low octet first.
+-- A record in octets, numbers low octet first: which record any octets are, and the octets that tell a record.
 use Prim.Native.Nat.{ℕ, _+_, _^_, _<_}
 use mathlib.Core.Path.{_≡_}
 use mathlib.Core.Bool.{Bool, not}
@@ -72,7 +72,7 @@ peerOf r = record {
   lifetime = record { 0 = le 4 r lifetimeAt };
 }
 
--- the octets that tell a record: those in front of the numbers, two of them unused and 0, and all
+-- The octets that tell a record: those in front of the numbers, the two unused ones 0, and then the numbers.
 unfoldable pub headOf : Peer → List ℕ
 headOf p = p .address ++ (yesNumber (p .cached) ∷ []) ++ p .pmkid ++ (phaseNumber (p .phase) ∷ p .cipher ∷ p .akm ∷ 0 ∷ 0 ∷ [])
 
@@ -84,6 +84,7 @@ pub record TellsNumber (w n : ℕ) (before after : List ℕ) : Type 0 where
   pub wrote : Wrote (octets w n) w before after
   pub fits : n < 256 ^ w
 
+-- What stands in front of the numbers is told, and the strings in it have their lengths.
 pub record TellsHead (p : Peer) (before after : List ℕ) : Type 0 where
   pub wrote : Wrote (headOf p) lifetimeAt before after
   pub address : length (p .address) ≡ 6

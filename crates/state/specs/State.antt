@@ -1,4 +1,4 @@
--- The octets that a host keeps: sixteen records, and the latest reading in 8 octets behind them. Any octets are a table.
+-- The octets that a host keeps, sixteen records and then the latest reading: which table any octets are.
 use Prim.Native.Nat.{ℕ, _+_, _*_, _<_}
 use mathlib.Core.Path.{_≡_}
 use mathlib.Core.List.{List, map}
@@ -13,6 +13,7 @@ use Rattle.peers.specs.declared.Table.{Table}
 use Rattle.peers.specs.View.{vacantPeer, noPeer}
 use Rattle.state.specs.Record.{recordSize, peerOf}
 
+-- where the latest reading begins
 abbrev pub latestAt : ℕ
 latestAt = 16 * recordSize
 
@@ -28,7 +29,7 @@ tableOf s = record { peers = map peerOf (pieces recordSize 16 s); latest = recor
 abbrev pub place : List ℕ → ℕ → Peer
 place s i = getD (tableOf s .peers) i noPeer
 
--- the record at a place that a search found, one of sixteen, or the vacant one where it found none
+-- a place that a search found is one of sixteen, and its record is there; where it found none, the vacant record stands for it
 abbrev pub IsPlace : Found → Type 0
 IsPlace (At i) = i < 16
 IsPlace Free = Unit

@@ -21,6 +21,7 @@ const CIPHER_AT: usize = PHASE_AT + 1;
 
 const AKM_AT: usize = CIPHER_AT + 1;
 
+// Two unused octets, so that the numbers behind them are aligned in the C struct of this layout.
 const UNUSED_AT: usize = AKM_AT + 1;
 
 const LIFETIME_AT: usize = UNUSED_AT + 2;
@@ -98,7 +99,7 @@ pub fn put_tu(d: &mut [u8], t: Tu)
     octets::put_le8(d, t.0);
 }
 
-// What stands in front of the numbers.
+// Writes what stands in front of the numbers.
 fn put_head(d: &mut [u8], p: Peer)
     requires { ⌜ lifetimeAt ≤ length (now d) ⌝ }
     ensures { λ _. ⌜ TellsHead p (now (d .entry)) (now (d .exit)) ⌝ }

@@ -12,7 +12,8 @@ use Rattle.octets.proofs.Numbers.{le-drop, le-bound, reads-back}
 use Rattle.cache.specs.declared.Record.{Record}
 use Rattle.cache.specs.declared.Read.the-variants.{Stands, End}
 use Rattle.cache.specs.File.{readAt, Cached, cachedAt, records, cacheFrom, cacheOf}
-use Rattle.cache.specs.Written.{valueOctets, recordOctets, cacheOctets, AreOctets, Proper, Each, ReadsBack, WrittenSo, ReadsWritable}
+use Rattle.octets.specs.Search.{Each}
+use Rattle.cache.specs.Written.{valueOctets, recordOctets, cacheOctets, AreOctets, Proper, ReadsBack, WrittenSo, ReadsWritable}
 use Rattle.cache.proofs.Records.{Whole, lying, read-end, read-record, ended, stood, within}
 use Rattle.cache.proofs.File.{from-by, holds-from}
 

@@ -4,6 +4,7 @@ use mathlib.Core.List.{List, [], _∷_, _++_}
 use Prim.Native.Nat.{ℕ, _^_, _≤_, _<_}
 use lib.ListN.{length, getD}
 use Rattle.octets.specs.Numbers.{octets}
+use Rattle.octets.specs.Search.{Each}
 use Rattle.cache.specs.File.{Cached, records, cacheOf}
 
 -- a value: PMKID 16, AKM type 1, end 8 (TU)
@@ -30,10 +31,6 @@ pub record Proper (c : Cached) : Type 0 where
   pub pmkid : AreOctets (c .pmkid)
   pub akm : c .akm < 256
   pub end : c .end < 2 ^ 64
-
-abbrev pub Each : (Cached → Type 0) → List Cached → Type 0
-Each P [] = Unit {0}
-Each P (c ∷ cs) = P c × Each P cs
 
 -- what a file can hold: at most 64 records
 pub record Writable (cs : List Cached) : Type 0 where

@@ -9,7 +9,7 @@ use Rattle.peers.specs.declared.Found.{Found}
 use Rattle.peers.specs.declared.Found.the-variants.{At, Free, Full}
 use Rattle.peers.specs.declared.Peer.{Peer}
 use Rattle.peers.proofs.Found as Found'
-use Rattle.calls.specs.Calls.{seen}
+use Rattle.calls.specs.Seen.{seen}
 
 -- where the code goes on without a place
 abbrev pub Nowhere : Found → Type 0

@@ -1,15 +1,15 @@
 // A call before a table comes into it: its checks, and what its body gets by what the search found of the peer.
 ghost use mathlib.Core.Path.{_≡_};
-ghost use mathlib.Core.Bool.{true};
 ghost use mathlib.Core.List.{[]};
+ghost use Prim.Native.Nat.{_^_, _≤_};
 ghost use lib.ListN.{length};
-ghost use Rattle.elements.specs.Body.{bodyOf};
-ghost use Rattle.rules.specs.OnePeer.{clockFits, settingsFit, isGroupAddress, firstFrame, thirdFrame, onBody};
-ghost use Rattle.rules.specs.Told.{callOf, Ready, Gets, Decides, thirdCall};
-ghost use Rattle.units.specs.Units.{inClock};
-ghost use Rattle.calls.specs.Calls.{checkedOf, seen, isFull, waits, isInstalled, changeOf};
-use bodies::PASN;
+ghost use Rattle.rules.specs.declared.Answer.{Answer};
+ghost use Rattle.rules.specs.OnePeer.{clockFits, settingsFit, isGroupAddress, checks, isInstalled, waits, goneIf, firstFrame, thirdFrame};
+ghost use Rattle.rules.specs.Told.{callOf, Ready, Gets, Decides};
+ghost use Rattle.calls.specs.Seen.{failure, askedOf, seen, isFull, BodyGets};
 use elements::Opened;
+use elements::PASN;
+use frames::second::LONGEST;
 use peers::Found;
 use peers::Peer;
 use peers::Phase;
@@ -20,9 +20,10 @@ use rules::Settings;
 use rules::Verdict;
 use units::Tu;
 
-const SMALLEST_BUFFER: usize = 148;
+// The reply buffer has room for the longest second frame.
+const SMALLEST_BUFFER: usize = LONGEST;
 
-pub fn clock_fits(latest: Tu, reading: Tu) -> bool
+fn clock_fits(latest: Tu, reading: Tu) -> bool
     ensures { λ r. ⌜ r ≡ clockFits latest reading ⌝ }
 {
     if latest.0 <= reading.0 {
@@ -46,7 +47,7 @@ fn settings_fit(s: Settings) -> bool
     false
 }
 
-pub fn is_group_address(address: [u8; 6]) -> bool
+fn is_group_address(address: [u8; 6]) -> bool
     ensures { λ r. ⌜ r ≡ isGroupAddress address ⌝ }
 {
     address[0] % 2 == 1
@@ -57,9 +58,9 @@ pub enum Checked {
     Failed(Answer),
 }
 
-// The checks 1 to 5, before the frame is looked at.
+// The checks 1 to 5, before the records and the frame are looked at.
 pub fn check_call(latest: Tu, brought: Brought, file: &[u8], room: usize) -> Checked
-    ensures { λ r. ⌜ r ≡ checkedOf latest brought (now (file .entry)) room ⌝ }
+    ensures { λ r. ⌜ failure r ≡ checks latest brought (now (file .entry)) room ⌝ }
 {
     let settings = brought.settings;
     let address = brought.address;
@@ -82,6 +83,25 @@ pub fn check_call(latest: Tu, brought: Brought, file: &[u8], room: usize) -> Che
     Checked::Passed
 }
 
+// What a removal and a look-up are checked for.
+pub enum Asked {
+    Passed,
+    ClockOut,
+    GroupAddress,
+}
+
+pub fn check_address(latest: Tu, address: [u8; 6], reading: Tu) -> Asked
+    ensures { λ r. ⌜ r ≡ askedOf latest reading address ⌝ }
+{
+    if !clock_fits(latest, reading) {
+        return Asked::ClockOut;
+    }
+    if is_group_address(address) {
+        return Asked::GroupAddress;
+    }
+    Asked::Passed
+}
+
 // From here on `found` is what the search answered of this peer, and `peer` the record at its place, or a vacant one without a place.
 fn is_full(found: Found) -> bool
     ensures { λ r. ⌜ r ≡ isFull found ⌝ }
@@ -93,7 +113,7 @@ fn is_full(found: Found) -> bool
     }
 }
 
-pub fn is_waiting(found: Found, peer: Peer) -> bool
+fn is_waiting(found: Found, peer: Peer) -> bool
     ensures { λ r. ⌜ r ≡ waits (seen found peer) ⌝ }
 {
     let Found::At(_) = found else {
@@ -115,7 +135,7 @@ fn is_installed(found: Found, peer: Peer) -> bool
     !is_waiting(found, peer)
 }
 
-// A first frame: an installed peer's key is not displaced. Neither a lent MIC nor the buffer's length is looked at.
+// A first frame: an installed peer's key is not displaced.
 fn on_first(
     found: Found,
     peer: Peer,
@@ -127,23 +147,34 @@ fn on_first(
     reply: &mut [u8],
 ) -> Verdict
     requires { ⌜ Ready brought (now file) (length (now reply)) ⌝ }
-    ensures { λ r. ⌜ Gets (firstFrame (callOf brought (now (file .entry)) (now (key .entry)) [] (now (body .entry)) 0) algorithm (isFull found) (seen found peer)) (seen found peer) (now (reply .entry)) (now (reply .exit)) r ⌝ }
+    ensures { λ r. ⌜ Gets (firstFrame brought (now (file .entry)) (now (key .entry)) (now (body .entry)) algorithm (isFull found) (seen found peer)) (now (reply .entry)) (now (reply .exit)) r ⌝ }
 {
     if is_installed(found, peer) {
-        return rules::only(Answer::PeerInstalled, Leaves::Same);
+        return rules::silent(Answer::PeerInstalled, Leaves::Same);
     }
     let full = is_full(found);
-    verdicts::first::answer(brought, file, key, body, algorithm, full, reply)
+    let waiting = is_waiting(found, peer);
+    verdicts::first::answer(brought, file, key, body, algorithm, full, waiting, reply)
 }
 
 fn on_third(found: Found, peer: Peer, reading: Tu, mic: &[u8], body: &[u8], status: u16) -> Verdict
-    requires { ⌜ inClock reading ≡ true ⌝ }
-    ensures { λ r. ⌜ Decides (thirdFrame (thirdCall reading (now (mic .entry)) (now (body .entry))) status (seen found peer)) (seen found peer) r ⌝ }
+    requires { ⌜ reading .0 ≤ 2 ^ 48 ⌝ }
+    ensures { λ r. ⌜ Decides (thirdFrame reading (now (mic .entry)) (now (body .entry)) status (seen found peer)) r ⌝ }
 {
     let Found::At(_) = found else {
-        return rules::only(Answer::NoExchange, Leaves::Same);
+        return rules::silent(Answer::NoExchange, Leaves::Same);
     };
     verdicts::third::answer(peer, reading, mic, body, status)
+}
+
+// Another algorithm than PASN ends an exchange that waits.
+fn on_other(found: Found, peer: Peer) -> Verdict
+    ensures { λ r. ⌜ Decides (record { answer = Answer.Algorithm; reply = []; leaves = goneIf (waits (seen found peer)) }) r ⌝ }
+{
+    if is_waiting(found, peer) {
+        return rules::silent(Answer::Algorithm, Leaves::Gone);
+    }
+    rules::silent(Answer::Algorithm, Leaves::Same)
 }
 
 // What a body gets, once the call is checked.
@@ -157,15 +188,15 @@ pub fn on_body(
     body: &[u8],
     reply: &mut [u8],
 ) -> Verdict
-    requires { ⌜ Ready brought (now file) (length (now reply)) × (inClock (brought .reading) ≡ true) ⌝ }
-    ensures { λ r. ⌜ Gets (onBody (callOf brought (now (file .entry)) (now (key .entry)) (now (mic .entry)) (now (body .entry)) (length (now (reply .entry)))) (bodyOf (now (body .entry))) (isFull found) (seen found peer)) (seen found peer) (now (reply .entry)) (now (reply .exit)) r ⌝ }
+    requires { ⌜ Ready brought (now file) (length (now reply)) ⌝ }
+    ensures { λ r. ⌜ BodyGets (callOf brought (now (file .entry)) (now (key .entry)) (now (mic .entry)) (now (body .entry)) (now (reply .entry))) found peer (now (reply .exit)) r ⌝ }
 {
     let opened = elements::open_body(body);
     let Opened::Body(header) = opened else {
-        return rules::only(Answer::BodyLength, Leaves::Same);
+        return rules::silent(Answer::BodyLength, Leaves::Same);
     };
     if header.algorithm != PASN {
-        return rules::only(Answer::Algorithm, Leaves::WaitingGoes);
+        return on_other(found, peer);
     }
     if header.transaction == 1 {
         return on_first(
@@ -183,21 +214,5 @@ pub fn on_body(
         let reading = brought.reading;
         return on_third(found, peer, reading, mic, body, header.status);
     }
-    rules::only(Answer::Transaction, Leaves::Same)
-}
-
-// The change of the table that a verdict asks for: a waiting record goes only where there is one.
-pub fn change_of(found: Found, peer: Peer, leaves: Leaves) -> Leaves
-    ensures { λ r. ⌜ r ≡ changeOf (seen found peer) leaves ⌝ }
-{
-    match leaves {
-        Leaves::Same => Leaves::Same,
-        Leaves::WaitingGoes => {
-            if is_waiting(found, peer) {
-                return Leaves::WaitingGoes;
-            }
-            Leaves::Same
-        }
-        Leaves::Becomes => Leaves::Becomes,
-    }
+    rules::silent(Answer::Transaction, Leaves::Same)
 }

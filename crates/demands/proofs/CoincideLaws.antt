@@ -13,20 +13,21 @@ use Rattle.octets.specs.Equality.{sameOctets}
 use Rattle.octets.proofs.Logic.{both}
 use Rattle.units.specs.declared.Tu.{Tu}
 use Rattle.units.specs.Units.{inClock}
-use Rattle.bodies.specs.declared.MicAnswer.{MicAnswer}
+use Rattle.chip.specs.declared.MicAnswer.{MicAnswer}
 use Rattle.peers.specs.declared.Peer.{Peer}
 use Rattle.peers.specs.declared.Table.{Table}
 use Rattle.peers.specs.Alike.{Alike}
 use Rattle.peers.specs.Promises.{Nobody}
-use Rattle.peers.specs.View.{other, shows, full}
+use Rattle.peers.specs.View.{absent, other, shows, full}
 use Rattle.peers.proofs.Laws.{alike-later, alike-full}
 use Rattle.rules.specs.declared.Answer.{Answer}
-use Rattle.rules.specs.OnePeer.{Call, numberOf, Left, same, gone, becomes, Outcome, unchanged, clockFits, isGroupAddress, receiveOf, removalOf, lookOf, lookUpOf}
+use Rattle.rules.specs.OnePeer.{Call, answerNumber, isEarly, Left, same, gone, becomes, Outcome, unchanged, clockFits, isGroupAddress, receiveOf, lookUpOf}
+use Rattle.rules.proofs.Checks.{checks-clock}
 use Rattle.platform.specs.declared.LookUp.{LookUp}
 use Rattle.platform.specs.declared.LookedUp.{LookedUp}
 use Rattle.platform.specs.declared.Removal.{Removal}
 use Rattle.platform.specs.declared.Removed.{Removed}
-use Rattle.platform.specs.Promises.{shownAfter, countedAfter, Settles, isEarly, Dates, Receives, removalNumber, leftByRemoval, Removes, lookNumber, IsSeen, LooksUp}
+use Rattle.platform.specs.Promises.{shownAfter, countedAfter, Settles, Dates, ruled, Receives, removalNumber, leftByRemoval, Removes, lookNumber, IsSeen, LooksUp}
 use Rattle.demands.specs.Coincide.{Match, Reception, SameReception, SameRemoval, MicOutcome, OutcomesCoincide}
 
 -- Tables that match -----------------------------------------------------------------------------------------------------------------------
@@ -72,46 +73,42 @@ module _ {t u : Table} (w : Match t u) (n : Tu) {number : ℕ} (fits : isEarly n
 
 -- Receive ---------------------------------------------------------------------------------------------------------------------------------
 
-clock-out : (latest : Tu) (full : Bool) (own : Option Peer) (call : Call) → clockFits latest (call .reading) ≡ false
+clock-out : (latest : Tu) (full : Bool) (own : Option Peer) (call : Call) → clockFits latest (call .brought .reading) ≡ false
     → receiveOf latest full own call ≡ unchanged Answer.ClockOut
 unfolding receiveOf
-clock-out latest full own call h = rw h
-
--- what the rules say of a call, by what a table shows
-abbrev pub ruled : Table → Call → Outcome
-ruled t call = receiveOf (t .latest) (full t (call .reading) (call .address)) (shows t (call .reading) (call .address)) call
+clock-out latest full own call h = rw (checks-clock latest (call .brought) (call .cache) (length (call .buffer)) h)
 
 -- what is not answered 1 to 5 has a reading that fits
-late : (t : Table) (call : Call) → isEarly (numberOf (ruled t call .answer)) ≡ false → t .latest .0 ≤ call .reading .0
-late t call h = go (clockFits (t .latest) (call .reading)) refl
+late : (t : Table) (call : Call) → isEarly (answerNumber (ruled t call .answer)) ≡ false → t .latest .0 ≤ call .brought .reading .0
+late t call h = go (clockFits (t .latest) (call .brought .reading)) refl
   where
-    go : (b : Bool) → clockFits (t .latest) (call .reading) ≡ b → t .latest .0 ≤ call .reading .0
-    go true e = fits-later (t .latest) (call .reading) e
-    go false e = absurd (true≢false (sym (ap (λ (o : Outcome). isEarly (numberOf (o .answer))) (clock-out (t .latest) (full t (call .reading) (call .address)) (shows t (call .reading) (call .address)) call e)) ∙ h))
+    go : (b : Bool) → clockFits (t .latest) (call .brought .reading) ≡ b → t .latest .0 ≤ call .brought .reading .0
+    go true e = fits-later (t .latest) (call .brought .reading) e
+    go false e = absurd (true≢false (sym (ap (λ (o : Outcome). isEarly (answerNumber (o .answer))) (clock-out (t .latest) (full t (call .brought .reading) (call .brought .address)) (shows t (call .brought .reading) (call .brought .address)) call e)) ∙ h))
 
 module _ (t u : Table) (w : Match t u) where
   module _ (call : Call) where
     ruled-same : ruled t call ≡ ruled u call
-    ruled-same = go (clockFits (t .latest) (call .reading)) refl
+    ruled-same = go (clockFits (t .latest) (call .brought .reading)) refl
       where
-        go : (b : Bool) → clockFits (t .latest) (call .reading) ≡ b → ruled t call ≡ ruled u call
+        go : (b : Bool) → clockFits (t .latest) (call .brought .reading) ≡ b → ruled t call ≡ ruled u call
         go false e =
-            clock-out (t .latest) (full t (call .reading) (call .address)) (shows t (call .reading) (call .address)) call e
-            ∙ sym (clock-out (u .latest) (full u (call .reading) (call .address)) (shows u (call .reading) (call .address)) call
-            (ap (λ (l : Tu). clockFits l (call .reading)) (sym (w .latest)) ∙ e))
+            clock-out (t .latest) (full t (call .brought .reading) (call .brought .address)) (shows t (call .brought .reading) (call .brought .address)) call e
+            ∙ sym (clock-out (u .latest) (full u (call .brought .reading) (call .brought .address)) (shows u (call .brought .reading) (call .brought .address)) call
+            (ap (λ (l : Tu). clockFits l (call .brought .reading)) (sym (w .latest)) ∙ e))
         go true e =
-            let v = alike-later w (call .reading) (fits-later (t .latest) (call .reading) e) in
-            rw (alike-full v (call .address), v .shown (call .reading) (omega arith) (call .address), w .latest)
+            let v = alike-later w (call .brought .reading) (fits-later (t .latest) (call .brought .reading) e) in
+            rw (alike-full v (call .brought .address), v .shown (call .brought .reading) (omega arith) (call .brought .address), w .latest)
 
-    received-same : (before : List ℕ) (x y : Reception) → Receives t call before (x .buffer) (x .received) → Receives u call before (y .buffer) (y .received) → SameReception x y
-    received-same before x y a b =
+    received-same : (x y : Reception) → Receives t call (x .buffer) (x .received) → Receives u call (y .buffer) (y .received) → SameReception x y
+    received-same x y a b =
         record {
           answer = a .answer ∙ ap (λ (o : Outcome). o .answer) ruled-same ∙ sym (b .answer);
           length = a .reply .tells ∙ ap (λ (o : Outcome). length (o .reply)) ruled-same ∙ sym (b .reply .tells);
-          buffer = a .reply .leaves ∙ ap (λ (o : Outcome). o .reply ++ drop (length (o .reply)) before) ruled-same ∙ sym (b .reply .leaves);
-          table = matches w (call .reading) (late t call) (a .dates)
-              (subst (λ (o : Outcome). Dates u (call .reading) (numberOf (o .answer)) (y .received .table)) (sym ruled-same) (b .dates)) (a .settles)
-              (subst (λ (o : Outcome). Settles u (call .address) (call .reading) (o .leaves) (y .received .table)) (sym ruled-same) (b .settles));
+          buffer = a .reply .leaves ∙ ap (λ (o : Outcome). o .reply ++ drop (length (o .reply)) (call .buffer)) ruled-same ∙ sym (b .reply .leaves);
+          table = matches w (call .brought .reading) (late t call) (a .dates)
+              (subst (λ (o : Outcome). Dates u (call .brought .reading) (answerNumber (o .answer)) (y .received .table)) (sym ruled-same) (b .dates)) (a .settles)
+              (subst (λ (o : Outcome). Settles u (call .brought .address) (call .brought .reading) (o .leaves) (y .received .table)) (sym ruled-same) (b .settles));
         }
 
 -- Removal and look-up ---------------------------------------------------------------------------------------------------------------------
@@ -164,7 +161,7 @@ module _ (t u : Table) (w : Match t u) (address : List ℕ) (n : Tu) where
   }
     where
       same-answer : x .answer ≡ y .answer
-      same-answer = by-number removalNumber removalBy removal-numbered (a .number ∙ number-same (λ own. if isGroupAddress address then 4 else removalOf own) ∙ sym (b .number))
+      same-answer = by-number removalNumber removalBy removal-numbered (a .number ∙ number-same (λ own. if isGroupAddress address then 4 else (if absent own then 17 else 16)) ∙ sym (b .number))
 
       fits : (c : Bool) → clockFits (t .latest) n ≡ c → isEarly (removalNumber (x .answer)) ≡ false → t .latest .0 ≤ n .0
       fits true c e = fits-later (t .latest) n c
@@ -178,7 +175,7 @@ module _ (t u : Table) (w : Match t u) (address : List ℕ) (n : Tu) where
       (peers (x .answer) (a .number) (a .shown) (subst (IsSeen (shows u n address) (y .peer)) (sym same-answer) (b .shown)))
     where
       same-answer : x .answer ≡ y .answer
-      same-answer = by-number lookNumber lookBy look-numbered (a .number ∙ number-same (λ own. if isGroupAddress address then 4 else lookOf own) ∙ sym (b .number))
+      same-answer = by-number lookNumber lookBy look-numbered (a .number ∙ number-same (λ own. if isGroupAddress address then 4 else (if absent own then 17 else 18)) ∙ sym (b .number))
 
       fits : (c : Bool) → clockFits (t .latest) n ≡ c → 18 ≡ lookUpOf (t .latest) n address (shows t n address) → shows t n address ≡ shows u n address
       fits true c e = shown-same c
@@ -193,7 +190,7 @@ module _ (t u : Table) (w : Match t u) (address : List ℕ) (n : Tu) where
 pub outcomes-coincide : OutcomesCoincide
 outcomes-coincide = record {
   empty = λ t u w r s x y. nobody-matches x y;
-  receive = λ call before t u w. received-same t u w call before;
+  receive = λ call t u w. received-same t u w call;
   remove = λ address n t u w. removed-same t u w address n;
   look-up = λ address n t u w. looked-same t u w address n;
   show-key = λ body t u w x y a b. a ∙ sym b;

@@ -1,7 +1,7 @@
 -- A worked example: one exchange that installs a key, and what takes the key away from it.
 use Prim.Native.Nat.{ℕ}
 use mathlib.Core.Path.{_≡_, refl}
-use mathlib.Core.Bool.{true, false}
+use mathlib.Core.Bool.{false}
 use mathlib.Core.List.{List, [], _∷_}
 use mathlib.Core.Option.{none, some}
 use native.Mathlib.Omega.{arith}
@@ -20,46 +20,32 @@ use Rattle.cache.specs.File.{isWellFormed, recordsOf}
 use Rattle.peers.specs.declared.Peer.{Peer}
 use Rattle.peers.specs.declared.Phase.{Phase}
 use Rattle.peers.specs.declared.Phase.the-variants.{Waiting, Installed}
-use Rattle.rules.specs.OnePeer.{receiveOf}
-use Rattle.demands.specs.Calls.{Frame, receive, remove, lookUp, removed, found, aloneGets, aloneAfter}
-use Rattle.demands.specs.Edges.{tu, station, firstBody, thirdBody, mic, shortKey}
+use Rattle.rules.specs.OnePeer.{Call, receiveOf}
+use Rattle.rules.specs.Alone.{receive, remove, lookUp, removed, found, aloneGets, aloneAfter}
+use Rattle.demands.specs.Edges.{tu, brings, station, firstBody, thirdBody, mic, shortKey}
 use Rattle.demands.specs.InstalledKey.{Holds}
 
 -- a lifetime of 3,600 s, 3,515,625 TU
-abbrev frame : ℕ → ℕ → List ℕ → Frame
-frame reading deadline body = record {
-  brought = record {
-    settings = record { pmkless = true; ciphers = 15; lifetime = record { 0 = 3600 }; deadline = tu deadline };
-    reading = tu reading;
-    address = station;
-    point = true;
-  };
-  cache = [];
-  key = shortKey;
-  mic = mic;
-  body = body;
-  buffer = replicate 148 0;
-}
+abbrev frame : ℕ → ℕ → List ℕ → Call
+frame reading deadline body =
+    record { brought = brings reading deadline station; cache = []; key = shortKey; mic = mic; body = body; buffer = replicate 148 0 }
 
 -- AKM 21, cipher 4, and no Timeout
 abbrev opening : List ℕ
 opening = firstBody 4 21 []
 
-abbrev opens : Frame
+abbrev opens : Call
 opens = frame 5000 1000 opening
 
-abbrev closes : ℕ → Frame
+abbrev closes : ℕ → Call
 closes reading = frame reading 1000 thirdBody
 
 abbrev peer : Phase → Peer
 peer phase = record {
   address = station;
+  agreed = record { cipher = 4; akm = 21; cached = false; lifetime = record { 0 = 3600 } };
   pmkid = replicate 16 0;
-  cached = false;
   phase = phase;
-  cipher = 4;
-  akm = 21;
-  lifetime = record { 0 = 3600 };
 }
 
 abbrev key : Peer

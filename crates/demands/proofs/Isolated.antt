@@ -18,7 +18,9 @@ use Rattle.peers.proofs.Few.{Few, few-nobody, few-later, few-room}
 use Rattle.peers.proofs.Showing.{dead-later}
 use Rattle.rules.specs.OnePeer.{Left, same, gone, becomes, peerAfter}
 use Rattle.platform.specs.Promises.{shownAfter}
-use Rattle.demands.specs.Calls.{Ask, whose, readingOf, Got, Runs, ends, goes, Each, zeroTu, From, lastFrom, Served, asksOf, gotBy, Alone, liveAt, gets, leaves, next, getsAll, nextAll, unknown}
+use Rattle.rules.specs.Alone.{Ask, whose, readingOf, Got, Alone, liveAt, gets, leaves, next, getsAll, nextAll, unknown}
+use Rattle.octets.specs.Search.{Each}
+use Rattle.demands.specs.Served.{Runs, ends, goes, zeroTu, From, lastFrom, Served, asksOf, gotBy}
 use Rattle.demands.specs.Isolation.{Isolation, NeverFull}
 use Rattle.demands.proofs.Latest.{date-after}
 use Rattle.demands.proofs.Room.{few-settles}

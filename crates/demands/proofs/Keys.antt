@@ -11,7 +11,9 @@ use Rattle.peers.specs.declared.Peer.{Peer}
 use Rattle.peers.specs.declared.Phase.the-variants.{Installed}
 use Rattle.peers.specs.View.{live, shows}
 use Rattle.rules.specs.OnePeer.{same, peerAfter, after, installedPeer}
-use Rattle.demands.specs.Calls.{Ask, receive, readingOf, Each, zeroTu, From, lastFrom, asksOf, Alone, liveAt, leaves, next, nextAll, unknown, aloneAfter}
+use Rattle.rules.specs.Alone.{Ask, receive, readingOf, Alone, liveAt, leaves, next, nextAll, unknown, aloneAfter}
+use Rattle.octets.specs.Search.{Each}
+use Rattle.demands.specs.Served.{zeroTu, From, lastFrom, asksOf}
 use Rattle.demands.specs.InstalledKey.{HasKey, waitingSince, Spares, isRemoval, Holds, InstalledKey}
 use Rattle.demands.proofs.Isolated.{isolation}
 use Rattle.demands.proofs.Latest.{date-after, leaves-dated, makes-dated}
@@ -49,8 +51,8 @@ module _ {asks : List Ask} {n : Tu} {p : Peer} (h : Holds asks n p) where
   installs-it : p ≡ installedPeer finish (h .exchange)
   installs-it = third-made (h .third) (record { is = refl; alive = in-time }) (h .thirdAccepted)
 
-  phase : p .phase ≡ Installed (after finish (inTu (p .lifetime)))
-  phase = ap (λ (q : Peer). q .phase) installs-it ∙ ap (λ (q : Peer). Installed (after finish (inTu (q .lifetime)))) (sym installs-it)
+  phase : p .phase ≡ Installed (after finish (inTu (p .agreed .lifetime)))
+  phase = ap (λ (q : Peer). q .phase) installs-it ∙ ap (λ (q : Peer). Installed (after finish (inTu (q .agreed .lifetime)))) (sym installs-it)
 
   lasts : live p n ≡ true
   lasts = live-by p n phase (h .endAhead)
@@ -60,7 +62,7 @@ module _ {asks : List Ask} {n : Tu} {p : Peer} (h : Holds asks n p) where
   spared s ask v l i k q = leaves-dated s (waitingSince (h .first) (h .exchange)) (v .is) ask l i k ∙ q
 
   kept : Quiet p finish (λ (ask : Ask). isRemoval ask ≡ false)
-  kept s ask v l i k q = installed-stays s ask p (after finish (inTu (p .lifetime))) phase (alive-at v) q
+  kept s ask v l i k q = installed-stays s ask p (after finish (inTu (p .agreed .lifetime))) phase (alive-at v) q
 
   leads : From zeroTu asks → lastFrom zeroTu asks .0 ≤ n .0 → Alive (aloneAfter asks .peer) n p
   leads f b =

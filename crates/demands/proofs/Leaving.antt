@@ -11,10 +11,9 @@ use Rattle.peers.specs.declared.Peer.{Peer}
 use Rattle.peers.specs.declared.Phase.{Phase}
 use Rattle.peers.specs.declared.Phase.the-variants.{Waiting, Installed}
 use Rattle.peers.specs.View.{until, live}
-use Rattle.rules.specs.OnePeer.{same, after, installedPeer, isGroupAddress}
-use Rattle.demands.specs.Calls.{Frame, callFor, Ask, receive, remove, lookUp, readingOf, Alone, liveAt, outcomeFor, leaves}
+use Rattle.rules.specs.OnePeer.{Call, same, after, isWaiting, isInstalled, installedPeer, isGroupAddress}
+use Rattle.rules.specs.Alone.{Ask, receive, remove, lookUp, readingOf, Alone, liveAt, outcomeFor, leaves}
 use Rattle.demands.specs.InstalledKey.{Makes, isRemoval}
-use Rattle.calls.specs.Calls.{isWaiting, isInstalled}
 use Rattle.demands.proofs.Outcomes.{Kind, keeps, ends, begins, installs, kind-of, Made, begun, installed, made-of}
 
 pub live-earlier : (p : Peer) (n m : Tu) → n .0 ≤ m .0 → live p m ≡ true → live p n ≡ true
@@ -40,18 +39,18 @@ pub alive-at : {o : Option Peer} {n : Tu} {p : Peer} → Alive o n p → liveAt 
 alive-at {n = n} w = rw (w .is, w .alive)
 
 -- an accepted first frame's record waits, and its address is no group's
-pub record FirstMade (frame : Frame) (p : Peer) : Type 0 where
+pub record FirstMade (frame : Call) (p : Peer) : Type 0 where
   pub phase : p .phase ≡ Waiting (after (frame .brought .reading) (frame .brought .settings .deadline))
   pub noGroup : isGroupAddress (frame .brought .address) ≡ false
 
-module _ {s : Alone} (frame : Frame) {p : Peer} where
-  how : {number : ℕ} → Makes number s frame p → Made (callFor frame) (liveAt (s .peer) (frame .brought .reading)) number p
-  how w = made-of (kind-of (callFor frame) (s .latest) _ (liveAt (s .peer) (frame .brought .reading))) (w .answer) (w .made)
+module _ {s : Alone} (frame : Call) {p : Peer} where
+  how : {number : ℕ} → Makes number s frame p → Made frame (liveAt (s .peer) (frame .brought .reading)) number p
+  how w = made-of (kind-of frame (s .latest) _ (liveAt (s .peer) (frame .brought .reading))) (w .answer) (w .made)
 
   pub first-made : Makes 0 s frame p → FirstMade frame p
   first-made w = go (how w)
     where
-      go : Made (callFor frame) (liveAt (s .peer) (frame .brought .reading)) 0 p → FirstMade frame p
+      go : Made frame (liveAt (s .peer) (frame .brought .reading)) 0 p → FirstMade frame p
       go (begun passed g i e) = record { phase = ap (λ (q : Peer). q .phase) e; noGroup = g }
       go (installed x q i e) = absurd (omega (arith, i))
 
@@ -59,19 +58,19 @@ module _ {s : Alone} (frame : Frame) {p : Peer} where
   pub third-made : {x : Peer} → Alive (s .peer) (frame .brought .reading) x → Makes 15 s frame p → p ≡ installedPeer (frame .brought .reading) x
   third-made {x} v w = go (how w)
     where
-      go : Made (callFor frame) (liveAt (s .peer) (frame .brought .reading)) 15 p → p ≡ installedPeer (frame .brought .reading) x
+      go : Made frame (liveAt (s .peer) (frame .brought .reading)) 15 p → p ≡ installedPeer (frame .brought .reading) x
       go (begun passed g i e) = absurd (omega (arith, i))
       go (installed y q i e) = e ∙ ap (installedPeer (frame .brought .reading)) (Option·some-injective y x (sym q ∙ alive-at v))
 
 -- only a removal ends an installed record before its end
 pub installed-stays : (s : Alone) (ask : Ask) (p : Peer) (end : Tu) → p .phase ≡ Installed end → liveAt (s .peer) (readingOf ask) ≡ some p → isRemoval ask ≡ false
     → leaves s ask ≡ same
-installed-stays s (receive frame) p end e h r = go (kind-of (callFor frame) (s .latest) _ (liveAt (s .peer) (frame .brought .reading)))
+installed-stays s (receive frame) p end e h r = go (kind-of frame (s .latest) _ (liveAt (s .peer) (frame .brought .reading)))
   where
     held : isInstalled (liveAt (s .peer) (frame .brought .reading)) ≡ true
     held = rw (h, e)
 
-    go : Kind (callFor frame) (liveAt (s .peer) (frame .brought .reading)) (outcomeFor s frame) → outcomeFor s frame .leaves ≡ same
+    go : Kind frame (liveAt (s .peer) (frame .brought .reading)) (outcomeFor s frame) → outcomeFor s frame .leaves ≡ same
     go (keeps e) = e
     go (ends i e) = absurd (true≢false (sym held ∙ i))
     go (begins passed i g a e) = absurd (true≢false (sym held ∙ i))

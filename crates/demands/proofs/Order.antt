@@ -8,7 +8,9 @@ use Rattle.octets.specs.Choice.{if_then_else_}
 use Rattle.octets.specs.Equality.{sameOctets}
 use Rattle.octets.proofs.Equality.{same-eq}
 use Rattle.units.specs.declared.Tu.{Tu}
-use Rattle.demands.specs.Calls.{Ask, whose, readingOf, Each, From, lastFrom, asksOf, Alone, next, nextAll}
+use Rattle.rules.specs.Alone.{Ask, whose, readingOf, Alone, next, nextAll}
+use Rattle.octets.specs.Search.{Each}
+use Rattle.demands.specs.Served.{From, lastFrom, asksOf}
 use Rattle.demands.proofs.Latest.{date-after}
 
 pub each-snoc : {A : Type 0} (P : A → Type 0) (xs : List A) (x : A) → Each P xs → P x → Each P (xs ++ (x ∷ []))

@@ -5,23 +5,17 @@ use mathlib.Core.List.{List, [], _∷_}
 use mathlib.Core.Option.{none, some, Option·none-ne-some}
 use Prim.Native.Nat.{ℕ}
 use native.Mathlib.Omega.{arith}
-use lib.ListN.{length, getD, replicate}
+use lib.ListN.{getD, replicate}
 use Rattle.octets.specs.Search.{first}
 use Rattle.peers.specs.declared.Peer.{Peer}
 use Rattle.peers.specs.declared.Phase.the-variants.{Waiting}
 use Rattle.peers.specs.declared.Table.{Table}
 use Rattle.peers.specs.View.{count, shows, others, full, vacantPeer}
-use Rattle.rules.specs.OnePeer.{Call, Outcome, numberOf}
-use Rattle.platform.specs.Promises.{shownAfter, Answers}
+use Rattle.rules.specs.OnePeer.{Call, Outcome, answerNumber, isInstalled}
+use Rattle.platform.specs.Promises.{shownAfter, Answers, ruled}
 use Rattle.demands.specs.Edges.{tu, firstBody, thirdBody, station, hears, recordOf, gets}
-use Rattle.demands.specs.Coincide.{Reception}
-use Rattle.calls.specs.Calls.{isInstalled}
 use Rattle.demands.specs.ShutsOut.{Responder, Meets, ConstantReply, WritesNothing, RecordsNothing, InstallsAtOnce, ShutsOut}
-use Rattle.demands.proofs.CoincideLaws.{ruled}
 use Rattle.octets.proofs.Parts.{wrote-stands}
-
-abbrev buffer : List ℕ
-buffer = replicate 148 0
 
 -- a table whose first place has a record, and whose others are vacant
 abbrev holding : Peer → Table
@@ -46,23 +40,20 @@ unfolding shows full others first count gets
 told = refl
 
 module _ (f : Responder) (meets : Meets f) where
-  abbrev gives : Table → Call → Reception
-  gives t call = f t call buffer
-
   -- what it gives is what the rules give
-  by-rules : (t : Table) (call : Call) {o : Outcome} → ruled t call ≡ o → length buffer ≡ call .room
-      → Answers t call o buffer (gives t call .buffer) (gives t call .received)
-  by-rules t call e h = subst (λ (o : Outcome). Answers t call o buffer (gives t call .buffer) (gives t call .received)) e (meets t call buffer h)
+  by-rules : (t : Table) (call : Call) {o : Outcome} → ruled t call ≡ o
+      → Answers t call o (f t call .buffer) (f t call .received)
+  by-rules t call e = subst (λ (o : Outcome). Answers t call o (f t call .buffer) (f t call .received)) e (meets t call)
 
-  first-answered : (cipher : ℕ) → Answers empty (asking cipher) (gets none (asking cipher)) buffer (gives empty (asking cipher) .buffer) (gives empty (asking cipher) .received)
-  first-answered cipher = by-rules empty (asking cipher) (asked cipher) refl
+  first-answered : (cipher : ℕ) → Answers empty (asking cipher) (gets none (asking cipher)) (f empty (asking cipher) .buffer) (f empty (asking cipher) .received)
+  first-answered cipher = by-rules empty (asking cipher) (asked cipher)
 
-  installs : numberOf (gives (holding waiting) (hears thirdBody) .received .answer) ≡ 15
+  installs : answerNumber (f (holding waiting) (hears thirdBody) .received .answer) ≡ 15
   unfolding gets
-  installs = ap numberOf (by-rules (holding waiting) (hears thirdBody) told refl .answer)
+  installs = ap answerNumber (by-rules (holding waiting) (hears thirdBody) told .answer)
 
-  accepted : (cipher : ℕ) → numberOf (gets none (asking cipher) .answer) ≡ 0 → numberOf (gives empty (asking cipher) .received .answer) ≡ 0
-  accepted cipher e = ap numberOf (first-answered cipher .answer) ∙ e
+  accepted : (cipher : ℕ) → answerNumber (gets none (asking cipher) .answer) ≡ 0 → answerNumber (f empty (asking cipher) .received .answer) ≡ 0
+  accepted cipher e = ap answerNumber (first-answered cipher .answer) ∙ e
 
   -- the cipher stands in the reply
   not-constant : ¬ ConstantReply f
@@ -70,7 +61,7 @@ module _ (f : Responder) (meets : Meets f) where
   not-constant c =
       let x = wrote-stands (first-answered 4 .reply) in
       let y = wrote-stands (first-answered 9 .reply) in
-      let z = sym x ∙ c .constant empty (asking 4) buffer (accepted 4 refl) ∙ sym (c .constant empty (asking 9) buffer (accepted 9 refl)) ∙ y in
+      let z = sym x ∙ c .constant empty (asking 4) (accepted 4 refl) ∙ sym (c .constant empty (asking 9) (accepted 9 refl)) ∙ y in
       let n : _≡_ {A = ℕ} 4 9 = ap (λ (s : List ℕ). getD s 19 0) z in
       omega arith
 
@@ -78,28 +69,28 @@ module _ (f : Responder) (meets : Meets f) where
   not-silent : ¬ WritesNothing f
   unfolding gets
   not-silent c =
-      let z = sym (first-answered 4 .reply .leaves) ∙ c empty (asking 4) buffer in
+      let z = sym (first-answered 4 .reply .leaves) ∙ c empty (asking 4) in
       let n : _≡_ {A = ℕ} 7 0 = ap (λ (s : List ℕ). getD s 0 0) z in
       omega arith
 
   -- the table then shows a waiting record
-  shown : shows (gives empty (asking 4) .received .table) (tu 5000) station ≡ shownAfter none (tu 5000) (gets none (asking 4) .leaves)
+  shown : shows (f empty (asking 4) .received .table) (tu 5000) station ≡ shownAfter none (tu 5000) (gets none (asking 4) .leaves)
   unfolding shows first
   shown = first-answered 4 .settles .shown (tu 5000) (omega arith) station
 
   not-idle : ¬ RecordsNothing f
   unfolding gets shows first
-  not-idle c = Option·none-ne-some _ (sym (c empty (asking 4) buffer (tu 5000) station) ∙ shown)
+  not-idle c = Option·none-ne-some _ (sym (c empty (asking 4) (tu 5000) station) ∙ shown)
 
   not-at-once : ¬ InstallsAtOnce f
   unfolding gets
-  not-at-once c = false≢true (sym (ap isInstalled shown) ∙ c empty (asking 4) buffer (accepted 4 refl))
+  not-at-once c = false≢true (sym (ap isInstalled shown) ∙ c empty (asking 4) (accepted 4 refl))
 
 pub shuts-out : ShutsOut
 unfolding gets
 shuts-out = record {
-  refuses-first-frames = λ f never meets. never empty (asking 4) buffer (accepted f meets 4 refl);
-  refuses-third-frames = λ f never meets. never (holding waiting) (hears thirdBody) buffer (installs f meets);
+  refuses-first-frames = λ f never meets. never empty (asking 4) (accepted f meets 4 refl);
+  refuses-third-frames = λ f never meets. never (holding waiting) (hears thirdBody) (installs f meets);
   constant-reply = λ f c meets. not-constant f meets c;
   writes-nothing = λ f c meets. not-silent f meets c;
   records-nothing = λ f c meets. not-idle f meets c;

@@ -14,21 +14,22 @@ use Rattle.peers.specs.declared.Peer.{Peer}
 use Rattle.peers.specs.declared.Table.{Table}
 use Rattle.peers.specs.View.{shows, full}
 use Rattle.peers.proofs.Laws.{shown-is}
-use Rattle.rules.specs.OnePeer.{Call, Left, same, Outcome, receiveOf, removeOf, lookUpOf}
+use Rattle.rules.specs.OnePeer.{Call, Left, same, Outcome, isEarly, receiveOf, removeOf, lookUpOf}
 use Rattle.platform.specs.declared.LookUp.{LookUp}
 use Rattle.platform.specs.declared.LookedUp.{LookedUp}
 use Rattle.platform.specs.declared.Received.{Received}
 use Rattle.platform.specs.declared.Removal.{Removal}
 use Rattle.platform.specs.declared.Removed.{Removed}
-use Rattle.platform.specs.Promises.{Settles, isEarly, Dates, Receives, removalNumber, leftByRemoval, Removes, lookNumber, IsSeen, LooksUp}
+use Rattle.platform.specs.Promises.{Settles, Dates, Receives, removalNumber, leftByRemoval, Removes, lookNumber, IsSeen, LooksUp}
 use Rattle.platform.proofs.Settling.{settles-none}
-use Rattle.demands.specs.Calls.{Frame, callFor, Ask, receive, remove, lookUp, whose, readingOf, Got, answered, removed, found, given, Allowed, receives, removes, looksUp, Alone, liveAt, outcomeFor, removalFor, lookFor, overwritten, gets, removalLeaves, leaves}
+use Rattle.rules.specs.Alone.{Ask, receive, remove, lookUp, whose, readingOf, Got, answered, removed, found, Alone, liveAt, outcomeFor, removalFor, lookFor, overwritten, gets, removalLeaves, leaves}
+use Rattle.demands.specs.Served.{given, Allowed, receives, removes, looksUp}
 use Rattle.demands.proofs.Latest.{receive-dated, remove-dated, look-dated}
 use Rattle.demands.proofs.Outcomes.{Kind, keeps, ends, begins, installs, kind-of}
 use Rattle.demands.proofs.Room.{OfAddress}
 
-made-by : (call : Call) {own : Option Peer} {o : Outcome} → Kind call own o → ((p : Peer) → own ≡ some p → p .address ≡ call .address)
-    → OfAddress (call .address) (o .leaves)
+made-by : (call : Call) {own : Option Peer} {o : Outcome} → Kind call own o → ((p : Peer) → own ≡ some p → p .address ≡ call .brought .address)
+    → OfAddress (call .brought .address) (o .leaves)
 made-by call (keeps e) h = rw e tt
 made-by call (ends i e) h = rw e tt
 made-by call (begins passed i g a e) h = rw e refl
@@ -93,7 +94,7 @@ module _ (t : Table) (n : Tu) (a : List ℕ) (h : t .latest .0 ≤ n .0) (k : n 
         (ap₂ found q (look-given (r .answer) (r .peer) (lookFor s a n) (w .shown) q ∙ ap (λ (o : Option Peer). if eqb (lookFor s a n) 18 then o else none) e), refl);
   }
 
-module _ (t : Table) (frame : Frame) (h : t .latest .0 ≤ frame .brought .reading .0) (k : frame .brought .reading .0 ≤ clockLimit) where
+module _ (t : Table) (frame : Call) (h : t .latest .0 ≤ frame .brought .reading .0) (k : frame .brought .reading .0 ≤ clockLimit) where
   abbrev n : Tu
   n = frame .brought .reading
 
@@ -104,24 +105,24 @@ module _ (t : Table) (frame : Frame) (h : t .latest .0 ≤ frame .brought .readi
   got o = answered (o .answer) (length (o .reply)) (overwritten (o .reply) (frame .buffer))
 
   abbrev outcome : Outcome
-  outcome = receiveOf (t .latest) (full t n a) (shows t n a) (callFor frame)
+  outcome = receiveOf (t .latest) (full t n a) (shows t n a) frame
 
-  receive-stepped : full t n a ≡ false → {buffer : List ℕ} {r : Received} → Receives t (callFor frame) (frame .buffer) buffer r
+  receive-stepped : full t n a ≡ false → {buffer : List ℕ} {r : Received} → Receives t frame buffer r
       → Stepped t (receive frame) (answered (r .answer) (r .length) buffer) (r .table)
   receive-stepped f {buffer} {r} w = record {
     left = outcome .leaves;
     settles = w .settles;
-    made = made-by (callFor frame) (kind-of (callFor frame) (t .latest) (full t n a) (shows t n a)) (λ p e. shown-is t n a e .address);
+    made = made-by frame (kind-of frame (t .latest) (full t n a) (shows t n a)) (λ p e. shown-is t n a e .address);
     latest = dates-by h (w .dates);
     alone = λ s l e. (rw (w .answer, w .reply .tells, w .reply .leaves) (ap got (alike s l e)), ap (λ (o : Outcome). o .leaves) (alike s l e));
   }
     where
       alike : (s : Alone) → s .latest .0 ≤ n .0 → shows t n a ≡ liveAt (s .peer) n → outcome ≡ outcomeFor s frame
-      alike s l e = receive-dated (t .latest) (s .latest) n h l k (full t n a) (shows t n a) (callFor frame) refl
-          ∙ ap₂ (λ (b : Bool) (o : Option Peer). receiveOf (s .latest) b o (callFor frame)) f e
+      alike s l e = receive-dated (t .latest) (s .latest) n h l k (full t n a) (shows t n a) frame refl
+          ∙ ap₂ (λ (b : Bool) (o : Option Peer). receiveOf (s .latest) b o frame) f e
 
 pub stepped : {t u : Table} {ask : Ask} {got : Got} → t .latest .0 ≤ readingOf ask .0 → readingOf ask .0 ≤ clockLimit
     → full t (readingOf ask) (whose ask) ≡ false → Allowed t ask got u → Stepped t ask got u
-stepped {t} h k f (receives {frame = frame} w) = receive-stepped t frame h k f w
+stepped {t} h k f (receives {call = frame} w) = receive-stepped t frame h k f w
 stepped {t} h k f (removes {a = a} {n = n} w) = remove-stepped t n a h k w
 stepped {t} h k f (looksUp {a = a} {n = n} w) = look-stepped t n a h k w

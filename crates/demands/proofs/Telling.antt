@@ -14,9 +14,10 @@ use Rattle.peers.specs.declared.Peer.{Peer}
 use Rattle.peers.specs.declared.Phase.{Phase}
 use Rattle.peers.specs.declared.Phase.the-variants.{Waiting, Installed}
 use Rattle.peers.specs.View.{until, live}
-use Rattle.rules.specs.OnePeer.{Left, same, numberOf, peerAfter, waitingPeer, installedPeer, isGroupAddress, removeOf}
-use Rattle.calls.specs.Calls.{isWaiting}
-use Rattle.demands.specs.Calls.{Frame, callFor, Ask, receive, remove, lookUp, whose, readingOf, Each, From, lastFrom, Alone, liveAt, outcomeFor, removalLeaves, leaves, next, unknown, aloneAfter}
+use Rattle.rules.specs.OnePeer.{Call, Left, same, answerNumber, peerAfter, isWaiting, waitingPeer, installedPeer, isGroupAddress, removeOf}
+use Rattle.rules.specs.Alone.{Ask, receive, remove, lookUp, whose, readingOf, Alone, liveAt, outcomeFor, removalLeaves, leaves, next, unknown, aloneAfter}
+use Rattle.octets.specs.Search.{Each}
+use Rattle.demands.specs.Served.{From, lastFrom}
 use Rattle.demands.specs.InstalledKey.{Makes, waitingSince, Spares, isRemoval, Holds}
 use Rattle.demands.proofs.Outcomes.{Kind, keeps, ends, begins, installs, kind-of}
 use Rattle.demands.proofs.Latest.{date-after, clock-fits, leaves-dated, makes-dated}
@@ -44,7 +45,7 @@ module _ (a : List ℕ) where
   -- x waits, by the calls up to the reading n
   pub record Waits (done : List Ask) (n : Tu) (x : Peer) : Type 0 where
     pub before : List Ask
-    pub first : Frame
+    pub first : Call
     pub between : List Ask
     pub split : done ≡ before ++ (receive first ∷ between)
     pub accepted : Makes 0 (aloneAfter before) first x
@@ -113,7 +114,7 @@ module _ (a : List ℕ) where
               let g = no-group p (p .phase) (subst (Story done n) (alive-is (s .peer) m q .is) w) in
               rw (clock-fits (s .latest) m (omega arith) k, g) tt
 
-      module _ (frame : Frame) (h : n .0 ≤ frame .brought .reading .0) (k : frame .brought .reading .0 ≤ clockLimit) (i : frame .brought .address ≡ a) where
+      module _ (frame : Call) (h : n .0 ≤ frame .brought .reading .0) (k : frame .brought .reading .0 ≤ clockLimit) (i : frame .brought .address ≡ a) where
         abbrev m : Tu
         m = frame .brought .reading
 
@@ -138,21 +139,21 @@ module _ (a : List ℕ) where
             thirdAccepted = makes-dated (waitingSince (w .first) x) s (sym (v .is)) frame (omega (arith, w .since)) (omega arith) k t;
             undisturbed = w .undisturbed;
             notRemoved = tt;
-            endAhead = omega (arith, ltb-true (j .0) (m .0 + inTu (x .lifetime) .0) d);
+            endAhead = omega (arith, ltb-true (j .0) (m .0 + inTu (x .agreed .lifetime) .0) d);
           };
           noGroup = ap isGroupAddress (sym (w .owner)) ∙ waits-made w .noGroup;
         }
 
         received : Story more m (next s (receive frame) .peer)
-        received = go (kind-of (callFor frame) (s .latest) _ (liveAt (s .peer) m))
+        received = go (kind-of frame (s .latest) _ (liveAt (s .peer) m))
           where
-            go : Kind (callFor frame) (liveAt (s .peer) m) (outcomeFor s frame) → Story more m (peerAfter (liveAt (s .peer) m) (outcomeFor s frame .leaves))
+            go : Kind frame (liveAt (s .peer) m) (outcomeFor s frame) → Story more m (peerAfter (liveAt (s .peer) m) (outcomeFor s frame .leaves))
             go (keeps e) = rw e (stays (receive frame) h k refl e)
             go (ends j e) = rw e tt
-            go (begins passed j g t e) = rw e (begun (waitingPeer (callFor frame) passed) (record { answer = ap numberOf t; made = e }))
+            go (begins passed j g t e) = rw e (begun (waitingPeer (frame .brought) passed) (record { answer = ap answerNumber t; made = e }))
             go (installs x q v t e) =
                 let z = alive-is (s .peer) m q in
-                rw e (keyed x z (waits-for x (x .phase) v (subst (Story done n) (z .is) w)) (record { answer = ap numberOf t; made = e }))
+                rw e (keyed x z (waits-for x (x .phase) v (subst (Story done n) (z .is) w)) (record { answer = ap answerNumber t; made = e }))
 
       story-next : (ask : Ask) → n .0 ≤ readingOf ask .0 → readingOf ask .0 ≤ clockLimit → whose ask ≡ a → Story (done ++ (ask ∷ [])) (readingOf ask) (next s ask .peer)
       story-next (receive frame) h k i = received frame h k i

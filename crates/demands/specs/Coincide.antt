@@ -5,8 +5,8 @@ use Prim.Native.Nat.{ℕ}
 use lib.ListN.{length}
 use Rattle.units.specs.declared.Tu.{Tu}
 use Rattle.frames.specs.Contents.{content}
-use Rattle.bodies.specs.declared.MicAnswer.{MicAnswer}
-use Rattle.bodies.specs.Bodies.{keyPart, zeroAnswer, zeroed, setAnswer, setOctets}
+use Rattle.chip.specs.declared.MicAnswer.{MicAnswer}
+use Rattle.chip.specs.Chip.{keyPart, zeroAnswer, zeroed, setAnswer, setOctets}
 use Rattle.peers.specs.declared.Table.{Table}
 use Rattle.peers.specs.Alike.{Alike}
 use Rattle.peers.specs.Promises.{Nobody}
@@ -46,7 +46,7 @@ pub record MicOutcome : Type 0 where
 
 pub record OutcomesCoincide : Type 0 where
   pub empty : Coincide (λ t r. Nobody r) Match
-  pub receive : (call : Call) (before : List ℕ) → Coincide (λ t x. Receives t call before (x .buffer) (x .received)) SameReception
+  pub receive : (call : Call) → Coincide (λ t x. Receives t call (x .buffer) (x .received)) SameReception
   pub remove : (address : List ℕ) (reading : Tu) → Coincide (λ t r. Removes t address reading r) SameRemoval
   pub look-up : (address : List ℕ) (reading : Tu) → Coincide {Outcome = LookedUp} (λ t r. LooksUp t address reading r) _≡_
   pub show-key : (body : List ℕ) → Coincide (λ t key. key ≡ content body (keyPart body)) _≡_

@@ -21,7 +21,8 @@ use Rattle.layouts.specs.Parameters.{parametersOf, parametersOctets}
 use Rattle.layouts.specs.Rsne.{rsneOf, rsneOctets}
 use Rattle.layouts.specs.Timeout.{timeoutOf, timeoutOctets}
 use Rattle.frames.specs.First.{firstOf}
-use Rattle.frames.specs.Second.{headerOctets, secondOctets}
+use Rattle.frames.specs.Header.{headerOctets}
+use Rattle.frames.specs.Second.{secondOctets}
 use Rattle.frames.specs.Third.{thirdOf}
 use Rattle.cache.specs.File.{isWellFormed, recordsOf}
 use Rattle.cache.specs.Search.{choiceOf}
@@ -29,7 +30,8 @@ use Rattle.peers.specs.declared.Peer.{Peer}
 use Rattle.peers.specs.declared.Phase.{Phase}
 use Rattle.peers.specs.declared.Phase.the-variants.{Waiting, Installed}
 use Rattle.peers.specs.View.{live}
-use Rattle.rules.specs.OnePeer.{Call, Outcome, numberOf, statusOf, receiveOf}
+use Rattle.rules.specs.declared.Brought.{Brought}
+use Rattle.rules.specs.OnePeer.{Call, Outcome, answerNumber, statusBeside, receiveOf}
 use Rattle.platform.specs.Promises.{shownAfter}
 
 abbrev pub tu : ℕ → Tu
@@ -79,19 +81,19 @@ longKey = 4 ∷ replicate 64 0x5a
 abbrev pub station : List ℕ
 station = 2 ∷ replicate 5 0
 
--- a call at 5,000 TU, all ciphers and PASN without a PMK allowed, with the lent point check passed
-abbrev pub asks : List ℕ → ℕ → List ℕ → List ℕ → List ℕ → Call
-asks address room key cache body = record {
-  settings = record { pmkless = true; ciphers = 15; lifetime = record { 0 = 3600 }; deadline = tu 1000 };
-  cache = cache;
-  reading = tu 5000;
+-- what is brought at a reading, with a deadline: all ciphers and PASN without a PMK allowed, the lent point check passed
+abbrev pub brings : ℕ → ℕ → List ℕ → Brought
+brings reading deadline address = record {
+  settings = record { pmkless = true; ciphers = 15; lifetime = record { 0 = 3600 }; deadline = tu deadline };
+  reading = tu reading;
   address = address;
-  point = true;
-  key = key;
-  mic = mic;
-  body = body;
-  room = room;
+  lent = record { point = true };
 }
+
+-- a call at 5,000 TU, with a reply buffer of so many octets
+abbrev pub asks : List ℕ → ℕ → List ℕ → List ℕ → List ℕ → Call
+asks address room key cache body =
+    record { brought = brings 5000 1000 address; cache = cache; key = key; mic = mic; body = body; buffer = replicate room 0 }
 
 -- a body of this station, with nothing in the cache
 abbrev pub hears : List ℕ → Call
@@ -120,17 +122,14 @@ writes p = length (rsneOctets 4 8 (replicate (16 * p) 0)) - 2
 abbrev pub recordOf : Phase → Peer
 recordOf phase = record {
   address = station;
+  agreed = record { cipher = 4; akm = 8; cached = true; lifetime = record { 0 = 60 } };
   pmkid = pmkid;
-  cached = true;
   phase = phase;
-  cipher = 4;
-  akm = 8;
-  lifetime = record { 0 = 60 };
 }
 
 -- the answer's number, and the status beside it
 abbrev pub answered : Outcome → List ℕ
-answered o = numberOf (o .answer) ∷ beside (statusOf (o .answer))
+answered o = answerNumber (o .answer) ∷ beside (statusBeside (o .answer))
   where
     beside : Option ℕ → List ℕ
     beside none = []
@@ -147,7 +146,7 @@ gets own call = receiveOf (tu 0) false own call
 unfoldable pub answers : Option Peer → List Call → List ℕ
 unfolding gets
 answers own [] = []
-answers own (call ∷ calls) = answered (gets own call) ++ answers (shownAfter own (call .reading) (gets own call .leaves)) calls
+answers own (call ∷ calls) = answered (gets own call) ++ answers (shownAfter own (call .brought .reading) (gets own call .leaves)) calls
 
 -- The table -----------------------------------------------------------------------------------------------------------------------------
 
@@ -189,9 +188,9 @@ edges =
     ∷ (P 10 ∶ answers none (hears (firstBody 4 21 []) ∷ hears thirdBody ∷ hears thirdBody ∷ hears (firstBody 4 21 []) ∷ []) is 0 ∷ 15 ∷ 13 ∷ 10 ∷ [])
     ∷ []
 
-abbrev pub Holds : List Edge → Type 0
-Holds [] = Unit {0}
-Holds (edge ∷ edges) = (edge .gives ≡ edge .must) × Holds edges
+abbrev pub AllHold : List Edge → Type 0
+AllHold [] = Unit {0}
+AllHold (edge ∷ edges) = (edge .gives ≡ edge .must) × AllHold edges
 
 abbrev pub EdgesHold : Type 0
-EdgesHold = Holds edges
+EdgesHold = AllHold edges

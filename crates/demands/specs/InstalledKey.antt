@@ -11,8 +11,10 @@ use Rattle.peers.specs.declared.Peer.{Peer}
 use Rattle.peers.specs.declared.Phase.the-variants.{Installed}
 use Rattle.peers.specs.declared.Table.{Table}
 use Rattle.peers.specs.View.{shows}
-use Rattle.rules.specs.OnePeer.{same, becomes, numberOf}
-use Rattle.demands.specs.Calls.{Frame, Ask, receive, remove, lookUp, Got, Each, lastReading, Served, asksOf, Alone, outcomeFor, leaves, aloneAfter}
+use Rattle.rules.specs.OnePeer.{Call, same, becomes, answerNumber}
+use Rattle.rules.specs.Alone.{Ask, receive, remove, lookUp, Got, Alone, outcomeFor, leaves, aloneAfter}
+use Rattle.octets.specs.Search.{Each}
+use Rattle.demands.specs.Served.{lastReading, Served, asksOf}
 
 -- the table shows p for the address, and its phase is installed
 pub record HasKey (t : Table) (n : Tu) (a : List ℕ) (p : Peer) : Type 0 where
@@ -21,16 +23,16 @@ pub record HasKey (t : Table) (n : Tu) (a : List ℕ) (p : Peer) : Type 0 where
   pub phase : p .phase ≡ Installed end
 
 -- the one-peer rules answer a frame with this number, and make this record
-pub record Makes (number : ℕ) (s : Alone) (frame : Frame) (p : Peer) : Type 0 where
-  pub answer : numberOf (outcomeFor s frame .answer) ≡ number
+pub record Makes (number : ℕ) (s : Alone) (frame : Call) (p : Peer) : Type 0 where
+  pub answer : answerNumber (outcomeFor s frame .answer) ≡ number
   pub made : outcomeFor s frame .leaves ≡ becomes p
 
 -- a peer whose exchange waits since its first frame
-abbrev pub waitingSince : Frame → Peer → Alone
+abbrev pub waitingSince : Call → Peer → Alone
 waitingSince first exchange = record { latest = first .brought .reading; peer = some exchange }
 
 -- a call that neither ends nor replaces the exchange
-abbrev pub Spares : Frame → Peer → Ask → Type 0
+abbrev pub Spares : Call → Peer → Ask → Type 0
 Spares first exchange ask = leaves (waitingSince first exchange) ask ≡ same
 
 abbrev pub isRemoval : Ask → Bool
@@ -42,9 +44,9 @@ isRemoval (lookUp address reading) = false
 -- accept; none of its calls between had ended or replaced that exchange; no removal came since; and the key's end is still ahead.
 pub record Holds (asks : List Ask) (n : Tu) (p : Peer) : Type 0 where
   pub before : List Ask
-  pub first : Frame
+  pub first : Call
   pub between : List Ask
-  pub third : Frame
+  pub third : Call
   pub since : List Ask
   pub split : asks ≡ before ++ (receive first ∷ (between ++ (receive third ∷ since)))
   pub exchange : Peer
@@ -53,7 +55,7 @@ pub record Holds (asks : List Ask) (n : Tu) (p : Peer) : Type 0 where
   pub thirdAccepted : Makes 15 (waitingSince first exchange) third p
   pub undisturbed : Each (Spares first exchange) between
   pub notRemoved : Each (λ (ask : Ask). isRemoval ask ≡ false) since
-  pub endAhead : n .0 < third .brought .reading .0 + inTu (p .lifetime) .0
+  pub endAhead : n .0 < third .brought .reading .0 + inTu (p .agreed .lifetime) .0
 
 -- From the last reading on, whoever else called between.
 abbrev pub InstalledKey : Type 0

@@ -6,7 +6,8 @@ use mathlib.Core.List.{List, List·Memᴰ}
 use Rattle.units.specs.declared.Tu.{Tu}
 use Rattle.peers.specs.declared.Table.{Table}
 use Rattle.peers.specs.View.{shows, full}
-use Rattle.demands.specs.Calls.{Ask, Got, lastReading, Served, asksOf, gotBy, liveAt, aloneGets, aloneAfter}
+use Rattle.rules.specs.Alone.{Ask, Got, liveAt, aloneGets, aloneAfter}
+use Rattle.demands.specs.Served.{lastReading, Served, asksOf, gotBy}
 
 -- An address gets what it would get alone, and from the last reading on the table shows the record that it would have alone, while it is live.
 pub record Isolated (asks : List Ask) (gots : List Got) (end : Table) (a : List ℕ) : Type 0 where

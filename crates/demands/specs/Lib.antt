@@ -1,4 +1,4 @@
-pub mod Calls
+pub mod Served
 pub mod Isolation
 pub mod InstalledKey
 pub mod Edges

@@ -3,8 +3,8 @@ use mathlib.Core.Path.{_≡_}
 use mathlib.Core.Bool.{Bool, true, false}
 use mathlib.Core.List.{List}
 use mathlib.Core.Logic.{_↔_}
-use mathlib.Core.Option.{some}
-use Prim.Native.Nat.{ℕ, _≤_}
+use mathlib.Core.Option.{none, some}
+use Prim.Native.Nat.{ℕ}
 use lib.ListN.{length, take, replicate}
 use Rattle.units.specs.declared.Tu.{Tu}
 use Rattle.elements.specs.declared.Opened.{Opened}
@@ -15,84 +15,77 @@ use Rattle.suites.specs.declared.AkmEntry.{AkmEntry}
 use Rattle.suites.specs.declared.Suite.the-variants.{Ours}
 use Rattle.suites.specs.Tables.{akmOf, isKeyOf}
 use Rattle.frames.specs.declared.first.Facts.{Facts}
-use Rattle.frames.specs.declared.first.First.{First}
-use Rattle.frames.specs.declared.third.Third.{Third}
 use Rattle.frames.specs.Contents.{content}
 use Rattle.frames.specs.First.{firstOf}
 use Rattle.frames.specs.SecondRead.{secondOf}
 use Rattle.frames.specs.Third.{thirdOf}
-use Rattle.cache.specs.File.{isWellFormed}
 use Rattle.peers.specs.declared.Peer.{Peer}
 use Rattle.peers.specs.declared.Phase.the-variants.{Waiting}
 use Rattle.peers.specs.declared.Table.{Table}
 use Rattle.peers.specs.View.{shows, full}
 use Rattle.rules.specs.declared.Answer.{Answer}
-use Rattle.rules.specs.OnePeer.{Call, numberOf, clockFits, settingsFit, isGroupAddress, refuse, pass, Passed, steps, lifetimeOf}
+use Rattle.rules.specs.declared.Refusal.{Refusal}
+use Rattle.rules.specs.OnePeer.{Call, answerNumber, isInstalled, checks, termsOf, Step, refuse, pass, Passed, listed, steps, lifetimeOf}
 use Rattle.platform.specs.declared.Received.{Received}
-use Rattle.calls.specs.Calls.{isInstalled}
 use Rattle.platform.specs.Promises.{Receives}
 
 -- What receive accepts --------------------------------------------------------------------------------------------------------------------
 
--- the checks 1 to 5 pass
-pub record ChecksPass (t : Table) (call : Call) : Type 0 where
-  pub clock : clockFits (t .latest) (call .reading) ≡ true
-  pub buffer : 148 ≤ call .room
-  pub settings : settingsFit (call .settings) ≡ true
-  pub address : isGroupAddress (call .address) ≡ false
-  pub cache : isWellFormed (call .cache) ≡ true
-
 -- a first frame that comes to its steps
 pub record FirstFrame (t : Table) (call : Call) : Type 0 where
-  pub checked : ChecksPass t call
+  pub checked : checks (t .latest) (call .brought) (call .cache) (length (call .buffer)) ≡ none
   pub status : ℕ
   pub opens : bodyOf (call .body) ≡ Opened.Body (record { algorithm = 7; transaction = 1; status = status })
-  pub free : isInstalled (shows t (call .reading) (call .address)) ≡ false
+  pub free : isInstalled (shows t (call .brought .reading) (call .brought .address)) ≡ false
+
+-- what the steps come to, by whether the table is full for this peer
+abbrev pub stepped : Table → Call → Step Passed
+stepped t call = steps (call .brought) (call .cache) (call .body) (full t (call .brought .reading) (call .brought .address))
 
 -- it passes them all, and our own key is of the group's form or not
 pub record AcceptsFirst (own-key : Bool) (t : Table) (call : Call) : Type 0 where
   pub frame : FirstFrame t call
   pub passed : Passed
-  pub passes : steps call (full t (call .reading) (call .address)) ≡ pass passed
+  pub passes : stepped t call ≡ pass passed
   pub key : isKeyOf (passed .group) (call .key) ≡ own-key
 
 -- one of them refuses it
-pub record RefusesFirst (status : ℕ) (t : Table) (call : Call) : Type 0 where
+pub record RefusesFirst (why : Refusal) (t : Table) (call : Call) : Type 0 where
   pub frame : FirstFrame t call
-  pub refuses : steps call (full t (call .reading) (call .address)) ≡ refuse status
+  pub refuses : stepped t call ≡ refuse why
 
 -- a third frame of status 0 and of a waiting peer, well-formed, whose MIC is the lent one
 pub record AcceptsThird (t : Table) (call : Call) : Type 0 where
-  pub checked : ChecksPass t call
+  pub checked : checks (t .latest) (call .brought) (call .cache) (length (call .buffer)) ≡ none
   pub opens : bodyOf (call .body) ≡ Opened.Body (record { algorithm = 7; transaction = 3; status = 0 })
   pub peer : Peer
-  pub shown : shows t (call .reading) (call .address) ≡ some peer
+  pub shown : shows t (call .brought .reading) (call .brought .address) ≡ some peer
   pub deadline : Tu
   pub waiting : peer .phase ≡ Waiting deadline
   pub akm : Akm
-  pub listed : akmOf (peer .akm) ≡ AkmEntry.In akm
+  pub listed : akmOf (peer .agreed .akm) ≡ AkmEntry.In akm
   pub part : Part
-  pub reads : thirdOf (call .body) (akm .mic) ≡ Third.Mic part
+  pub reads : thirdOf (call .body) (akm .mic) ≡ some part
   pub mic : content (call .body) part ≡ call .mic
 
--- the answers 0, 6, 11 with its status, and 15
+-- the answers 0, 6, 11 by the step that refuses, and 15
 pub record Exact (t : Table) (call : Call) (r : Received) : Type 0 where
-  pub accepted : numberOf (r .answer) ≡ 0 ↔ AcceptsFirst true t call
-  pub own-key : numberOf (r .answer) ≡ 6 ↔ AcceptsFirst false t call
-  pub refused : (status : ℕ) → r .answer ≡ Answer.Refused status ↔ RefusesFirst status t call
-  pub third : numberOf (r .answer) ≡ 15 ↔ AcceptsThird t call
+  pub accepted : answerNumber (r .answer) ≡ 0 ↔ AcceptsFirst true t call
+  pub own-key : answerNumber (r .answer) ≡ 6 ↔ AcceptsFirst false t call
+  pub refused : (why : Refusal) → r .answer ≡ Answer.Refused why ↔ RefusesFirst why t call
+  pub third : answerNumber (r .answer) ≡ 15 ↔ AcceptsThird t call
 
 abbrev pub AcceptanceIsExact : Type 0
-AcceptanceIsExact = (t : Table) (call : Call) (before after : List ℕ) (r : Received) → Receives t call before after r → Exact t call r
+AcceptanceIsExact = (t : Table) (call : Call) (after : List ℕ) (r : Received) → Receives t call after r → Exact t call r
 
 -- A reply reads back ----------------------------------------------------------------------------------------------------------------------
 
 -- a second frame of status 0 with the first frame's cipher, AKM and group, the chosen PMKID or none, the smaller lifetime, our own key and a MIC of zeros
 pub record SecondFrame (t : Table) (call : Call) (reply : List ℕ) : Type 0 where
   pub first : Facts
-  pub read : firstOf (call .body) ≡ First.Is first
+  pub read : firstOf (call .body) ≡ some first
   pub passed : Passed
-  pub passes : steps call (full t (call .reading) (call .address)) ≡ pass passed
+  pub passes : stepped t call ≡ pass passed
   pub reads : secondOf reply
       ≡ some (record {
         algorithm = 7;
@@ -102,13 +95,13 @@ pub record SecondFrame (t : Table) (call : Call) (reply : List ℕ) : Type 0 whe
         pairwise = first .rsne .pairwise;
         akm = first .rsne .akm;
         capabilities = 0x00c0;
-        pmkids = passed .pmkid;
+        pmkids = listed passed;
         management = Ours 7;
-        lifetime = lifetimeOf (call .settings .lifetime) (first .lifetime);
+        lifetime = lifetimeOf (call .brought .settings .lifetime) (first .lifetime);
         format = 0;
         group = first .group;
         key = call .key;
-        mic = replicate (passed .akm .mic) 0;
+        mic = replicate (passed .mic) 0;
       })
 
 -- six octets: the frame's algorithm, transaction 2, the status
@@ -118,8 +111,8 @@ pub record SixOctets (status : ℕ) (reply : List ℕ) : Type 0 where
 
 -- the reply is the first octets of the buffer, as many as are told
 pub record RepliesReadBack (t : Table) (call : Call) (after : List ℕ) (r : Received) : Type 0 where
-  pub accepted : numberOf (r .answer) ≡ 0 → SecondFrame t call (take (r .length) after)
-  pub refused : (status : ℕ) → r .answer ≡ Answer.Refused status → SixOctets status (take (r .length) after)
+  pub accepted : answerNumber (r .answer) ≡ 0 → SecondFrame t call (take (r .length) after)
+  pub refused : (why : Refusal) → r .answer ≡ Answer.Refused why → SixOctets (termsOf why .status) (take (r .length) after)
 
 abbrev pub AReplyReadsBack : Type 0
-AReplyReadsBack = (t : Table) (call : Call) (before after : List ℕ) (r : Received) → Receives t call before after r → RepliesReadBack t call after r
+AReplyReadsBack = (t : Table) (call : Call) (after : List ℕ) (r : Received) → Receives t call after r → RepliesReadBack t call after r

@@ -15,7 +15,8 @@ use Rattle.layouts.specs.Parameters.{parametersOf, parametersOctets}
 use Rattle.layouts.specs.Rsne.{rsneOf, rsneOctets}
 use Rattle.layouts.specs.Timeout.{timeoutOf, timeoutOctets}
 use Rattle.frames.specs.declared.second.Chosen.{Chosen}
-use Rattle.frames.specs.Second.{headerOctets, secondOctets}
+use Rattle.frames.specs.Header.{headerOctets}
+use Rattle.frames.specs.Second.{secondOctets}
 use Rattle.frames.specs.SecondRead.{Second, secondOf}
 
 abbrev header : List ℕ

@@ -1,5 +1,5 @@
 -- Parts of parts: where what an element says lies in the body.
-use mathlib.Core.Path.{_≡_, _∙_}
+use mathlib.Core.Path.{_≡_, subst, _∙_}
 use mathlib.Core.List.{List}
 use Prim.Native.Nat.{ℕ, _+_, _-_}
 use native.Mathlib.Omega.{arith}
@@ -11,11 +11,12 @@ use Rattle.elements.specs.Within.{Lies, LiesIf}
 use Rattle.layouts.specs.declared.parameters.Offer.{Offer}
 use Rattle.layouts.specs.declared.parameters.Parameters.{Parameters}
 use Rattle.layouts.specs.declared.parameters.Reading as parameters
+use Rattle.layouts.specs.declared.parameters.Side.{Side}
 use Rattle.layouts.specs.declared.rsne.Reading as rsne
 use Rattle.layouts.specs.declared.rsne.Rsne.{Rsne}
 use Rattle.layouts.specs.Parameters.{parametersOf}
 use Rattle.layouts.specs.Rsne.{rsneOf}
-use Rattle.layouts.proofs.parameters.Laws.{parts-lie}
+use Rattle.layouts.proofs.parameters.Laws.{OfferLies, parts-lie}
 use Rattle.layouts.proofs.rsne.Laws.{pmkids-lie}
 use Rattle.frames.specs.Contents.{content, shifted, extended}
 use Rattle.frames.proofs.Otherwise.{one-lies}
@@ -35,7 +36,9 @@ module _ (body : List ℕ) {t : Times} {p : Part} (one : t ≡ One p) where
       → Lies 0 (length body) (shifted (p .start) (r .pmkids))
   rsne-lies {r} l e = shifted-lies body p (r .pmkids) (one-lies one l) (pmkids-lie (content body p) e .lies)
 
-  pub key-lies : {r : Parameters} {group : ℕ} {key : Part} → LiesIf 1 (length body) t → parametersOf (content body (extended p)) ≡ parameters.Reading.Is r
-      → r .offer ≡ Offer.Key group key → Lies 0 (length body) (shifted (p .start + 1) key)
-  key-lies {r} {group} {key} l e o =
-      shifted-lies body (extended p) key (extended-lies (one-lies one l)) (parts-lie (content body (extended p)) e .key o)
+  pub key-lies : (side : Side) {r : Parameters} {group : ℕ} {key : Part} → LiesIf 1 (length body) t
+      → parametersOf side (content body (extended p)) ≡ parameters.Reading.Is r → r .offer ≡ Offer.Key group key
+      → Lies 0 (length body) (shifted (p .start + 1) key)
+  key-lies side {key = key} l e o =
+      shifted-lies body (extended p) key (extended-lies (one-lies one l))
+      (subst (OfferLies (length (content body (extended p)))) o (parts-lie (content body (extended p)) side e .offer))

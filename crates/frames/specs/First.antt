@@ -1,55 +1,63 @@
--- The first frame, step 1. Ill: the walk fails; a Fragment; RSNE, Timeout, PASN Parameters or Wrapped Data twice; RSNE or PASN Parameters missing; one of
--- these ill-formed; wrapped format 4 or more; Wrapped Data present with format 0 or absent with 1 to 3; B1 clear. MIC is ignored.
+-- The first frame. Step 1 refuses it: walk fails; a Fragment; RSNE, Timeout, PASN Parameters or Wrapped Data twice; RSNE or PASN Parameters missing; one of
+-- these ill-formed; wrapped format 4 or more; Wrapped Data present with format 0 or absent with 1 to 3; B1 clear. The status is ignored, and so is MIC.
 use Prim.Native.Nat.{ℕ}
-use mathlib.Core.Bool.{Bool, false, _&&_, not}
+use mathlib.Core.Bool.{Bool, not}
 use mathlib.Core.List.{List}
+use mathlib.Core.Option.{Option, none, some}
 use lib.Dec.{eqb, ltb}
-use Rattle.octets.specs.Choice.{if_then_else_}
-use Rattle.elements.specs.declared.Places.{Places}
-use Rattle.elements.specs.declared.Scan.{Scan}
-use Rattle.elements.specs.declared.Times.{Times}
-use Rattle.elements.specs.declared.Times.the-variants.{None, One, More}
+use Rattle.octets.specs.Maybe.{_>>=_}
+use Rattle.elements.specs.declared.Part.{Part}
 use Rattle.elements.specs.Scan.{scanOf}
 use Rattle.elements.specs.Within.{Lies}
-use Rattle.layouts.specs.declared.rsne.Reading as rsne
-use Rattle.frames.specs.declared.contents.LifetimeReading.{LifetimeReading}
-use Rattle.frames.specs.declared.contents.Offered.{Offered}
+use Rattle.layouts.specs.declared.parameters.Side.the-variants.{Station}
+use Rattle.layouts.specs.Parameters.{parametersOf}
+use Rattle.layouts.specs.Rsne.{rsneOf}
+use Rattle.layouts.specs.Timeout.{timeoutOf}
+use Rattle.frames.specs.declared.contents.Lifetime.{Lifetime}
 use Rattle.frames.specs.declared.first.Facts.{Facts}
 use Rattle.frames.specs.declared.first.First.{First}
-use Rattle.frames.specs.Contents.{isNone, rsneIn, lifetimeIn, offeredIn}
+use Rattle.frames.specs.Contents.{content, shifted, extended, holds, isWalked, once, atMostOnce, never, isRsne, isLifetime, isParameters, isKey, rsneFrom}
 
--- Wrapped Data is absent with format 0, and there with 1 to 3; it is never there twice
-abbrev pub wrappedFits : ℕ → Times → Bool
-wrappedFits format None = eqb format 0
-wrappedFits format (One p) = not (eqb format 0) && ltb format 4
-wrappedFits format (More p) = false
+-- the lifetime that a Timeout Interval asks for, where there is one
+abbrev pub lifetimeAt : List ℕ → Option Part → Option Lifetime
+lifetimeAt body none = some Lifetime.Unasked
+lifetimeAt body (some at) = do
+  seconds ← isLifetime (timeoutOf (content body at))
+  some (Lifetime.Asked seconds)
 
-abbrev pub firstBy : rsne.Reading → LifetimeReading → Offered → Times → First
-firstBy rsne.Reading.Ill lifetime offered wrapped = First.Ill
-firstBy (rsne.Reading.Is r) LifetimeReading.Ill offered wrapped = First.Ill
-firstBy (rsne.Reading.Is r) (LifetimeReading.Is l) Offered.Ill wrapped = First.Ill
-firstBy (rsne.Reading.Is r) (LifetimeReading.Is l) (Offered.Key format group key) wrapped =
-    if wrappedFits format wrapped then First.Is (record { rsne = r; lifetime = l; format = format; group = group; key = key })
-    else First.Ill
+-- whether Wrapped Data is there as the format says
+abbrev pub isWrapped : ℕ → Option Part → Bool
+isWrapped format none = eqb format 0
+isWrapped format (some at) = not (eqb format 0)
 
-unfoldable pub firstIn : List ℕ → Places → First
-firstIn body p =
-    if isNone (p .fragment) then firstBy (rsneIn body (p .rsne)) (lifetimeIn body (p .timeout)) (offeredIn body (p .parameters)) (p .wrapped)
-    else First.Ill
+unfoldable pub firstOf : List ℕ → Option Facts
+firstOf body = do
+  places ← isWalked (scanOf body)
+  _ ← never (places .fragment)
+  atRsne ← once (places .rsne)
+  atTimeout ← atMostOnce (places .timeout)
+  atParameters ← once (places .parameters)
+  atWrapped ← atMostOnce (places .wrapped)
+  rsne ← isRsne (rsneOf (content body atRsne))
+  lifetime ← lifetimeAt body atTimeout
+  parameters ← isParameters (parametersOf Station (content body (extended atParameters)))
+  _ ← holds (ltb (parameters .format) 4)
+  _ ← holds (isWrapped (parameters .format) atWrapped)
+  (group, key) ← isKey (parameters .offer)
+  some (record {
+    rsne = rsneFrom atRsne rsne;
+    lifetime = lifetime;
+    format = parameters .format;
+    group = group;
+    key = shifted (extended atParameters .start) key;
+  })
 
-abbrev pub firstScanned : List ℕ → Scan → First
-firstScanned body (Scan.Failed place) = First.Ill
-firstScanned body (Scan.Walked p) = firstIn body p
-
-unfoldable pub firstOf : List ℕ → First
-unfolding firstIn
-firstOf body = firstScanned body (scanOf body)
+-- what the code tells
+abbrev pub isFirst : First → Option Facts
+isFirst (First.Is facts) = some facts
+isFirst First.Ill = none
 
 -- the parts that a first frame tells lie within n octets
 pub record FactsLie (n : ℕ) (facts : Facts) : Type 0 where
   pub pmkids : Lies 0 n (facts .rsne .pmkids)
   pub key : Lies 0 n (facts .key)
-
-abbrev pub FirstLies : ℕ → First → Type 0
-FirstLies n (First.Is facts) = FactsLie n facts
-FirstLies n First.Ill = Unit {0}

@@ -1,5 +1,7 @@
 pub mod Contents
+pub mod Header
 pub mod First
 pub mod Second
-pub mod Third
 pub mod SecondRead
+pub mod Third
+pub mod ByElement

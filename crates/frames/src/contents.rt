@@ -1,33 +1,24 @@
 // What the elements of a body say, by how often each stands there. Parts are places of the body.
 ghost use mathlib.Core.Path.{_≡_};
 ghost use lib.ListN.{length};
-ghost use Rattle.elements.specs.Within.{LiesIf};
-ghost use Rattle.frames.specs.Contents.{isNone, rsneIn, lifetimeIn, offeredIn, isQuiet, isQuietReading};
+ghost use Rattle.elements.specs.Within.{Lies, LiesIf};
+ghost use Rattle.layouts.specs.Parameters.{parametersOf};
+ghost use Rattle.frames.specs.Contents.{content, extended, isRsne};
+ghost use Rattle.frames.specs.ByElement.{rsneIn, isLifetimeReading, lifetimeIn};
 use elements::Part;
 use elements::Times;
 use layouts::parameters;
-use layouts::parameters::Comeback;
-use layouts::parameters::Offer;
+use layouts::parameters::Side;
 use layouts::rsne;
 use layouts::rsne::Rsne;
 use layouts::timeout;
 use layouts::timeout::Timeout;
 use units::Seconds;
 
-pub fn is_none(t: Times) -> bool
-    ensures { λ r. ⌜ r ≡ isNone t ⌝ }
-{
-    match t {
-        Times::None => true,
-        Times::One(_) => false,
-        Times::More(_) => false,
-    }
-}
-
 // The one RSNE.
 pub fn read_rsne(body: &[u8], t: Times) -> rsne::Reading
     requires { ⌜ LiesIf 0 (length (now body)) t ⌝ }
-    ensures { λ r. ⌜ r ≡ rsneIn (now (body .entry)) t ⌝ }
+    ensures { λ r. ⌜ isRsne r ≡ rsneIn (now (body .entry)) t ⌝ }
 {
     let Times::One(at) = t else {
         return rsne::Reading::Ill;
@@ -60,7 +51,7 @@ pub enum LifetimeReading {
 // The Timeout Interval, of which there is at most one.
 pub fn read_lifetime(body: &[u8], t: Times) -> LifetimeReading
     requires { ⌜ LiesIf 0 (length (now body)) t ⌝ }
-    ensures { λ r. ⌜ r ≡ lifetimeIn (now (body .entry)) t ⌝ }
+    ensures { λ r. ⌜ isLifetimeReading r ≡ lifetimeIn (now (body .entry)) t ⌝ }
 {
     match t {
         Times::None => LifetimeReading::Is(Lifetime::Unasked),
@@ -77,68 +68,12 @@ pub fn read_lifetime(body: &[u8], t: Times) -> LifetimeReading
     }
 }
 
-// What a first frame's PASN Parameters offer: the wrapped format, the group, and the place of the key.
-pub enum Offered {
-    Key { format: u8, group: u16, key: Part },
-    Ill,
-}
-
-// The one PASN Parameters of a first frame, with a group and a key.
-pub fn read_offered(body: &[u8], t: Times) -> Offered
-    requires { ⌜ LiesIf 1 (length (now body)) t ⌝ }
-    ensures { λ r. ⌜ r ≡ offeredIn (now (body .entry)) t ⌝ }
+// PASN Parameters, whose content begins with the extension ID. What they tell are parts of what follows it.
+pub fn parameters_at(body: &[u8], at: Part, side: Side) -> parameters::Reading
+    requires { ⌜ Lies 1 (length (now body)) at ⌝ }
+    ensures { λ r. ⌜ r ≡ parametersOf side (content (now (body .entry)) (extended at)) ⌝ }
 {
-    let Times::One(at) = t else {
-        return Offered::Ill;
-    };
     let start = at.start + 1;
     let end = at.end;
-    let reading = parameters::read(&body[start..end]);
-    let parameters::Reading::Is(p) = reading else {
-        return Offered::Ill;
-    };
-    let offer = p.offer;
-    let Offer::Key(group, key) = offer else {
-        return Offered::Ill;
-    };
-    Offered::Key {
-        format: p.format,
-        group: group,
-        key: Part {
-            start: start + key.start,
-            end: start + key.end,
-        },
-    }
-}
-
-fn is_quiet_reading(reading: parameters::Reading) -> bool
-    ensures { λ r. ⌜ r ≡ isQuietReading reading ⌝ }
-{
-    match reading {
-        parameters::Reading::Ill => false,
-        parameters::Reading::Is(p) => {
-            let comeback = p.comeback;
-            let offer = p.offer;
-            match comeback {
-                Comeback::Cookie(_) => false,
-                Comeback::Absent => match offer {
-                    Offer::Key(_, _) => false,
-                    Offer::Absent => p.format == 0,
-                },
-            }
-        }
-    }
-}
-
-// Whether there is one PASN Parameters, and it says nothing: B0 and B1 clear, format 0.
-pub fn is_quiet(body: &[u8], t: Times) -> bool
-    requires { ⌜ LiesIf 1 (length (now body)) t ⌝ }
-    ensures { λ r. ⌜ r ≡ isQuiet (now (body .entry)) t ⌝ }
-{
-    let Times::One(at) = t else {
-        return false;
-    };
-    let start = at.start + 1;
-    let end = at.end;
-    is_quiet_reading(parameters::read(&body[start..end]))
+    parameters::read(&body[start..end], side)
 }

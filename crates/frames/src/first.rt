@@ -1,16 +1,19 @@
 // The first frame.
 ghost use mathlib.Core.Path.{_≡_};
 ghost use lib.ListN.{length};
-ghost use Rattle.elements.specs.Within.{Within};
-ghost use Rattle.frames.specs.First.{wrappedFits, firstBy, firstIn, firstOf};
+ghost use Rattle.elements.specs.Within.{LiesIf};
+ghost use Rattle.frames.specs.Contents.{holds};
+ghost use Rattle.frames.specs.First.{firstOf, isFirst};
+ghost use Rattle.frames.specs.ByElement.{isOffered, offeredIn, wrappedIn};
 use crate::contents;
 use crate::contents::Lifetime;
 use crate::contents::LifetimeReading;
-use crate::contents::Offered;
 use elements::Part;
-use elements::Places;
 use elements::Scan;
 use elements::Times;
+use layouts::parameters;
+use layouts::parameters::Offer;
+use layouts::parameters::Side;
 use layouts::rsne;
 use layouts::rsne::Rsne;
 
@@ -28,9 +31,42 @@ pub enum First {
     Ill,
 }
 
+// What PASN Parameters offer: the wrapped format, the group, and the place of the key.
+pub enum Offered {
+    Key { format: u8, group: u16, key: Part },
+    Ill,
+}
+
+// The one PASN Parameters, with a group and a key.
+fn read_offered(body: &[u8], t: Times) -> Offered
+    requires { ⌜ LiesIf 1 (length (now body)) t ⌝ }
+    ensures { λ r. ⌜ isOffered r ≡ offeredIn (now (body .entry)) t ⌝ }
+{
+    let Times::One(at) = t else {
+        return Offered::Ill;
+    };
+    let reading = contents::parameters_at(body, at, Side::Station);
+    let parameters::Reading::Is(p) = reading else {
+        return Offered::Ill;
+    };
+    let offer = p.offer;
+    let Offer::Key(group, key) = offer else {
+        return Offered::Ill;
+    };
+    let start = at.start + 1;
+    Offered::Key {
+        format: p.format,
+        group: group,
+        key: Part {
+            start: start + key.start,
+            end: start + key.end,
+        },
+    }
+}
+
 // Whether Wrapped Data is there exactly if the format says so, and the format is none that is reserved.
 fn wrapped_fits(format: u8, wrapped: Times) -> bool
-    ensures { λ r. ⌜ r ≡ wrappedFits format wrapped ⌝ }
+    ensures { λ r. ⌜ holds r ≡ wrappedIn format wrapped ⌝ }
 {
     match wrapped {
         Times::None => format == 0,
@@ -44,63 +80,41 @@ fn wrapped_fits(format: u8, wrapped: Times) -> bool
     }
 }
 
-fn first_by(
-    rsne: rsne::Reading,
-    lifetime: LifetimeReading,
-    offered: Offered,
-    wrapped: Times,
-) -> First
-    ensures { λ r. ⌜ r ≡ firstBy rsne lifetime offered wrapped ⌝ }
-{
-    match rsne {
-        rsne::Reading::Ill => First::Ill,
-        rsne::Reading::Is(r) => match lifetime {
-            LifetimeReading::Ill => First::Ill,
-            LifetimeReading::Is(l) => match offered {
-                Offered::Ill => First::Ill,
-                Offered::Key { format, group, key } => {
-                    if wrapped_fits(format, wrapped) {
-                        return First::Is(Facts {
-                            rsne: r,
-                            lifetime: l,
-                            format: format,
-                            group: group,
-                            key: key,
-                        });
-                    }
-                    First::Ill
-                }
-            },
-        },
-    }
-}
-
-fn first_in(body: &[u8], p: Places) -> First
-    requires { ⌜ Within (length (now body)) p ⌝ }
-    ensures { λ r. ⌜ r ≡ firstIn (now (body .entry)) p ⌝ }
-{
-    let fragment = p.fragment;
-    let rsne = p.rsne;
-    let timeout = p.timeout;
-    let parameters = p.parameters;
-    let wrapped = p.wrapped;
-    if contents::is_none(fragment) {
-        return first_by(
-            contents::read_rsne(body, rsne),
-            contents::read_lifetime(body, timeout),
-            contents::read_offered(body, parameters),
-            wrapped,
-        );
-    }
-    First::Ill
-}
-
 pub fn read(body: &[u8]) -> First
-    ensures { λ r. ⌜ r ≡ firstOf (now (body .entry)) ⌝ }
+    ensures { λ r. ⌜ isFirst r ≡ firstOf (now (body .entry)) ⌝ }
 {
     let scan = elements::scan_body(body);
-    match scan {
-        Scan::Failed(_) => First::Ill,
-        Scan::Walked(p) => first_in(body, p),
+    let Scan::Walked(p) = scan else {
+        return First::Ill;
+    };
+    let fragment = p.fragment;
+    let Times::None = fragment else {
+        return First::Ill;
+    };
+    let rsne = p.rsne;
+    let reading = contents::read_rsne(body, rsne);
+    let rsne::Reading::Is(rsne) = reading else {
+        return First::Ill;
+    };
+    let timeout = p.timeout;
+    let reading = contents::read_lifetime(body, timeout);
+    let LifetimeReading::Is(lifetime) = reading else {
+        return First::Ill;
+    };
+    let parameters = p.parameters;
+    let offered = read_offered(body, parameters);
+    let Offered::Key { format, group, key } = offered else {
+        return First::Ill;
+    };
+    let wrapped = p.wrapped;
+    if wrapped_fits(format, wrapped) {
+        return First::Is(Facts {
+            rsne: rsne,
+            lifetime: lifetime,
+            format: format,
+            group: group,
+            key: key,
+        });
     }
+    First::Ill
 }

@@ -1,25 +1,37 @@
-// The second frame, and the refusal that stands in its place.
-ghost use Prim.Native.Nat.{_≤_};
+// The second frame.
+ghost use mathlib.Core.Path.{_≡_};
 ghost use lib.ListN.{length};
 ghost use Rattle.octets.specs.Wrote.{Wrote};
-ghost use Rattle.frames.specs.Second.{Fits, headerOctets, secondOctets};
+ghost use Rattle.frames.specs.Second.{Fits, longestSecond, secondOctets};
+use crate::header;
 use layouts::mic;
 use layouts::parameters;
+use layouts::parameters::ComebackToWrite;
+use layouts::parameters::OfferToWrite;
+use layouts::parameters::ToWrite;
 use layouts::rsne;
 use layouts::timeout;
+use suites::LONGEST_KEY;
+use suites::LONGEST_MIC;
 use units::Seconds;
 
 // The transaction number of a second frame.
-const SECOND: u16 = 2;
+pub const SECOND: u16 = 2;
 
-// Writes the six octets in front of a second frame's elements: all that a refusal has.
-pub fn put_header(d: &mut [u8], algorithm: u16, status: u16) -> usize
-    requires { ⌜ 6 ≤ length (now d) ⌝ }
-    ensures { λ r. ⌜ Wrote (headerOctets algorithm status) r (now (d .entry)) (now (d .exit)) ⌝ }
+// The octets of the longest second frame: with a PMKID, and the longest key and MIC of the tables.
+pub const LONGEST: usize = header::LENGTH
+    + rsne::LENGTH
+    + rsne::PMKID
+    + timeout::LENGTH
+    + parameters::WITH_KEY
+    + LONGEST_KEY
+    + mic::LENGTH
+    + LONGEST_MIC;
+
+pub fn longest() -> usize
+    ensures { λ r. ⌜ r ≡ longestSecond ⌝ }
 {
-    let a = octets::put_le2(d, algorithm);
-    let b = a + octets::put_le2(&mut d[a..], SECOND);
-    b + octets::put_le2(&mut d[b..], status)
+    LONGEST
 }
 
 // What a second frame says, beside the PMKID or none and the key.
@@ -37,9 +49,14 @@ pub fn put(d: &mut [u8], chosen: Chosen, pmkids: &[u8], key: &[u8]) -> usize
     ensures { λ r. ⌜ Wrote (secondOctets chosen (now (pmkids .entry)) (now (key .entry))) r (now (d .entry)) (now (d .exit)) ⌝ }
 {
     let lifetime = chosen.lifetime;
-    let a = put_header(d, chosen.algorithm, 0);
+    let said = ToWrite {
+        comeback: ComebackToWrite::Absent,
+        format: 0,
+        offer: OfferToWrite::Key(chosen.group),
+    };
+    let a = header::put(d, chosen.algorithm, SECOND, 0);
     let b = a + rsne::put(&mut d[a..], chosen.cipher, chosen.akm, pmkids);
     let c = b + timeout::put(&mut d[b..], lifetime);
-    let e = c + parameters::put(&mut d[c..], chosen.group, key);
+    let e = c + parameters::put(&mut d[c..], said, &[], key);
     e + mic::put(&mut d[e..], chosen.mic)
 }

@@ -1,13 +1,18 @@
 // The third frame.
 ghost use mathlib.Core.Path.{_≡_};
 ghost use lib.ListN.{length};
-ghost use Rattle.elements.specs.Within.{Within, Ordered};
-ghost use Rattle.frames.specs.Third.{micOf, thirdIn, thirdOf};
+ghost use Rattle.elements.specs.Within.{LiesIf, Ordered};
+ghost use Rattle.frames.specs.Contents.{holds};
+ghost use Rattle.frames.specs.Third.{thirdOf, isThird};
+ghost use Rattle.frames.specs.ByElement.{quietIn, micIn};
 use crate::contents;
 use elements::Part;
-use elements::Places;
 use elements::Scan;
 use elements::Times;
+use layouts::parameters;
+use layouts::parameters::Comeback;
+use layouts::parameters::Offer;
+use layouts::parameters::Side;
 
 // The place of the MIC, in a third frame that is refused for nothing else.
 pub enum Third {
@@ -15,9 +20,32 @@ pub enum Third {
     Ill,
 }
 
+// Whether there is one PASN Parameters, and it says nothing: B0 and B1 clear, format 0.
+fn is_quiet(body: &[u8], t: Times) -> bool
+    requires { ⌜ LiesIf 1 (length (now body)) t ⌝ }
+    ensures { λ r. ⌜ holds r ≡ quietIn (now (body .entry)) t ⌝ }
+{
+    let Times::One(at) = t else {
+        return false;
+    };
+    let reading = contents::parameters_at(body, at, Side::Station);
+    let parameters::Reading::Is(p) = reading else {
+        return false;
+    };
+    let comeback = p.comeback;
+    let Comeback::Absent = comeback else {
+        return false;
+    };
+    let offer = p.offer;
+    let Offer::Absent = offer else {
+        return false;
+    };
+    p.format == 0
+}
+
 fn mic_of(mic: Times, n: usize) -> Third
     requires { ⌜ Ordered mic ⌝ }
-    ensures { λ r. ⌜ r ≡ micOf mic n ⌝ }
+    ensures { λ r. ⌜ isThird r ≡ micIn mic n ⌝ }
 {
     let Times::One(p) = mic else {
         return Third::Ill;
@@ -28,31 +56,26 @@ fn mic_of(mic: Times, n: usize) -> Third
     Third::Mic(p)
 }
 
-fn third_in(body: &[u8], p: Places, n: usize) -> Third
-    requires { ⌜ Within (length (now body)) p ⌝ }
-    ensures { λ r. ⌜ r ≡ thirdIn (now (body .entry)) p n ⌝ }
-{
-    let fragment = p.fragment;
-    let parameters = p.parameters;
-    let wrapped = p.wrapped;
-    let mic = p.mic;
-    if contents::is_none(fragment) {
-        if contents::is_none(wrapped) {
-            if contents::is_quiet(body, parameters) {
-                return mic_of(mic, n);
-            }
-        }
-    }
-    Third::Ill
-}
-
 // n is the length that the exchange's MIC has.
 pub fn read(body: &[u8], n: usize) -> Third
-    ensures { λ r. ⌜ r ≡ thirdOf (now (body .entry)) n ⌝ }
+    ensures { λ r. ⌜ isThird r ≡ thirdOf (now (body .entry)) n ⌝ }
 {
     let scan = elements::scan_body(body);
-    match scan {
-        Scan::Failed(_) => Third::Ill,
-        Scan::Walked(p) => third_in(body, p, n),
+    let Scan::Walked(p) = scan else {
+        return Third::Ill;
+    };
+    let fragment = p.fragment;
+    let Times::None = fragment else {
+        return Third::Ill;
+    };
+    let wrapped = p.wrapped;
+    let Times::None = wrapped else {
+        return Third::Ill;
+    };
+    let parameters = p.parameters;
+    if is_quiet(body, parameters) {
+        let mic = p.mic;
+        return mic_of(mic, n);
     }
+    Third::Ill
 }

@@ -1,6 +1,7 @@
 -- Worked examples. The real octets are of a first frame that hostap's station wrote.
 use mathlib.Core.Path.{_≡_, refl}
 use mathlib.Core.List.{List, [], _∷_, _++_}
+use mathlib.Core.Option.{none, some}
 use Prim.Native.Nat.{ℕ, _*_}
 use lib.ListN.{length, take, replicate}
 use Rattle.octets.specs.Numbers.{le, octets}
@@ -9,6 +10,7 @@ use Rattle.suites.specs.Suite.{suiteAt, suiteOctets}
 use Rattle.layouts.specs.declared.parameters.Comeback.{Comeback}
 use Rattle.layouts.specs.declared.parameters.Offer.{Offer}
 use Rattle.layouts.specs.declared.parameters.Reading.{Reading as Parameters}
+use Rattle.layouts.specs.declared.parameters.Side.the-variants.{Station, AccessPoint}
 use Rattle.layouts.specs.declared.rsne.Only.{Only}
 use Rattle.layouts.specs.declared.rsne.Only.the-variants.{One, Otherwise}
 use Rattle.layouts.specs.declared.rsne.Reading.{Reading as Rsne}
@@ -125,37 +127,69 @@ real-key =
 abbrev key : ℕ → ℕ → Offer
 key start end = Offer.Key 19 (record { start = start; end = end })
 
-pub real-parameters-read : parametersOf ((0x02 ∷ 0x00 ∷ 0x13 ∷ 0x00 ∷ 0x21 ∷ []) ++ real-key)
+pub real-parameters-read : parametersOf Station ((0x02 ∷ 0x00 ∷ 0x13 ∷ 0x00 ∷ 0x21 ∷ []) ++ real-key)
     ≡ Parameters.Is (record { comeback = Comeback.Absent; format = 0; offer = key 5 38 })
 unfolding parametersOf le
 real-parameters-read = refl
 
-pub real-parameters-written : parametersOctets 19 real-key ≡ (0xff ∷ 0x27 ∷ 0x64 ∷ 0x02 ∷ 0x00 ∷ 0x13 ∷ 0x00 ∷ 0x21 ∷ []) ++ real-key
+pub real-parameters-written : parametersOctets Station (record { comeback = none; format = 0; offer = some (19, real-key) })
+    ≡ (0xff ∷ 0x27 ∷ 0x64 ∷ 0x02 ∷ 0x00 ∷ 0x13 ∷ 0x00 ∷ 0x21 ∷ []) ++ real-key
 unfolding parametersOctets octets
 real-parameters-written = refl
 
-pub with-cookie : parametersOf ((3 ∷ 0 ∷ 2 ∷ 0xc0 ∷ 0xc1 ∷ 19 ∷ 0 ∷ 33 ∷ []) ++ real-key)
+abbrev with-cookie : List ℕ
+with-cookie = (3 ∷ 0 ∷ 2 ∷ 0xc0 ∷ 0xc1 ∷ 19 ∷ 0 ∷ 33 ∷ []) ++ real-key
+
+pub with-cookie-read : parametersOf Station with-cookie
     ≡ Parameters.Is (record { comeback = Comeback.Cookie (record { start = 3; end = 5 }); format = 0; offer = key 8 41 })
 unfolding parametersOf le
-with-cookie = refl
+with-cookie-read = refl
 
-pub rest-of-control-ignored : parametersOf ((0xfe ∷ 0 ∷ 19 ∷ 0 ∷ 33 ∷ []) ++ real-key)
+pub with-cookie-written : parametersOctets Station (record { comeback = some (0xc0 ∷ 0xc1 ∷ []); format = 0; offer = some (19, real-key) })
+    ≡ 0xff ∷ 0x2a ∷ 0x64 ∷ with-cookie
+unfolding parametersOctets octets
+with-cookie-written = refl
+
+-- an access point tells a station to come back after 300 TU
+abbrev come-back : List ℕ
+come-back = 1 ∷ 0 ∷ 0x2c ∷ 0x01 ∷ 2 ∷ 0xc0 ∷ 0xc1 ∷ []
+
+pub come-back-read : parametersOf AccessPoint come-back
+    ≡ Parameters.Is (record { comeback = Comeback.After 300 (record { start = 5; end = 7 }); format = 0; offer = Offer.Absent })
+unfolding parametersOf le
+come-back-read = refl
+
+pub come-back-written : parametersOctets AccessPoint (record { comeback = some (300, 0xc0 ∷ 0xc1 ∷ []); format = 0; offer = none })
+    ≡ 0xff ∷ 0x08 ∷ 0x64 ∷ come-back
+unfolding parametersOctets octets
+come-back-written = refl
+
+-- from a station the first of these octets is the cookie's length
+pub come-back-from-a-station : parametersOf Station come-back ≡ Parameters.Ill
+unfolding parametersOf
+come-back-from-a-station = refl
+
+pub rest-of-control-ignored : parametersOf Station ((0xfe ∷ 0 ∷ 19 ∷ 0 ∷ 33 ∷ []) ++ real-key)
     ≡ Parameters.Is (record { comeback = Comeback.Absent; format = 0; offer = key 5 38 })
 unfolding parametersOf le
 rest-of-control-ignored = refl
 
-pub neither : parametersOf (0 ∷ 0 ∷ []) ≡ Parameters.Is (record { comeback = Comeback.Absent; format = 0; offer = Offer.Absent })
+pub neither : parametersOf Station (0 ∷ 0 ∷ []) ≡ Parameters.Is (record { comeback = Comeback.Absent; format = 0; offer = Offer.Absent })
 unfolding parametersOf
 neither = refl
 
-pub beyond-nothing : parametersOf (0 ∷ 0 ∷ 7 ∷ []) ≡ Parameters.Ill
+pub neither-written : parametersOctets Station (record { comeback = none; format = 0; offer = none }) ≡ 0xff ∷ 3 ∷ 0x64 ∷ 0 ∷ 0 ∷ []
+unfolding parametersOctets
+neither-written = refl
+
+pub beyond-nothing : parametersOf Station (0 ∷ 0 ∷ 7 ∷ []) ≡ Parameters.Ill
 unfolding parametersOf
 beyond-nothing = refl
 
-pub beyond-the-key : parametersOf ((2 ∷ 0 ∷ 19 ∷ 0 ∷ 33 ∷ []) ++ real-key ++ (7 ∷ [])) ≡ Parameters.Ill
+pub beyond-the-key : parametersOf Station ((2 ∷ 0 ∷ 19 ∷ 0 ∷ 33 ∷ []) ++ real-key ++ (7 ∷ [])) ≡ Parameters.Ill
 unfolding parametersOf
 beyond-the-key = refl
 
-pub cookie-past-the-end : parametersOf (1 ∷ 0 ∷ 3 ∷ 0xc0 ∷ 0xc1 ∷ []) ≡ Parameters.Ill
+pub cookie-past-the-end : parametersOf Station (1 ∷ 0 ∷ 3 ∷ 0xc0 ∷ 0xc1 ∷ []) ≡ Parameters.Ill
 unfolding parametersOf
 cookie-past-the-end = refl

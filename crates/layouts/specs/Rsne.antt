@@ -48,6 +48,13 @@ rsneOf s =
     if not (eqb (le 2 s 0) 1) then Ill
     else rsneWith s (pairwiseCount s) (akmCount s) (pmkidCount s)
 
+-- the octets of the whole element, beside its PMKIDs, and of a PMKID
+abbrev pub rsneSize : ℕ
+rsneSize = 28
+
+abbrev pub pmkidSize : ℕ
+pmkidSize = 16
+
 -- the whole element: ID 48 and the length; one pairwise suite, one AKM, capabilities 00C0 hex
 unfoldable pub rsneOctets : ℕ → ℕ → List ℕ → List ℕ
 rsneOctets cipher akm pmkids =

@@ -17,6 +17,9 @@ timeoutOf s =
     else if eqb (le 4 s 1) 0 then Ill
     else Lifetime (record { 0 = le 4 s 1 })
 
+abbrev pub timeoutSize : ℕ
+timeoutSize = 7
+
 -- the whole element: ID 56, length 5, type 2, the seconds
 unfoldable pub timeoutOctets : Seconds → List ℕ
 timeoutOctets lifetime = (56 ∷ 5 ∷ 2 ∷ []) ++ octets 4 (lifetime .0)

@@ -3,7 +3,7 @@ ghost use mathlib.Core.Path.{_≡_};
 ghost use Prim.Native.Nat.{_+_, _≤_, _<_};
 ghost use lib.ListN.{length};
 ghost use Rattle.octets.specs.Wrote.{Wrote};
-ghost use Rattle.layouts.specs.Rsne.{onlyOf, rsneOf, rsneOctets};
+ghost use Rattle.layouts.specs.Rsne.{onlyOf, rsneOf, rsneSize, rsneOctets};
 use elements::Part;
 use suites::GROUP_CIPHER;
 use suites::Suite;
@@ -82,9 +82,14 @@ pub fn read(content: &[u8]) -> Reading
     })
 }
 
+// The octets of an element as it is written, beside its PMKIDs, and of a PMKID.
+pub const LENGTH: usize = 28;
+
+pub const PMKID: usize = 16;
+
 // Writes a whole element: one pairwise suite, one AKM, management frames protected, and PMKIDs of 16 octets each.
 pub fn put(d: &mut [u8], cipher: u8, akm: u8, pmkids: &[u8]) -> usize
-    requires { ⌜ (length (now pmkids) < 230) × (length (now pmkids) + 28 ≤ length (now d)) ⌝ }
+    requires { ⌜ (length (now pmkids) < 230) × (length (now pmkids) + rsneSize ≤ length (now d)) ⌝ }
     ensures { λ r. ⌜ Wrote (rsneOctets cipher akm (now (pmkids .entry))) r (now (d .entry)) (now (d .exit)) ⌝ }
 {
     let n = pmkids.len();

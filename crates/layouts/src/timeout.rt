@@ -3,7 +3,7 @@ ghost use mathlib.Core.Path.{_≡_};
 ghost use Prim.Native.Nat.{_≤_};
 ghost use lib.ListN.{length};
 ghost use Rattle.octets.specs.Wrote.{Wrote};
-ghost use Rattle.layouts.specs.Timeout.{timeoutOf, timeoutOctets};
+ghost use Rattle.layouts.specs.Timeout.{timeoutOf, timeoutSize, timeoutOctets};
 use units::Seconds;
 
 pub enum Timeout {
@@ -30,8 +30,11 @@ pub fn read(content: &[u8]) -> Timeout
     Timeout::Lifetime(Seconds(seconds))
 }
 
+// The octets of an element.
+pub const LENGTH: usize = 7;
+
 pub fn put(d: &mut [u8], lifetime: Seconds) -> usize
-    requires { ⌜ 7 ≤ length (now d) ⌝ }
+    requires { ⌜ timeoutSize ≤ length (now d) ⌝ }
     ensures { λ r. ⌜ Wrote (timeoutOctets lifetime) r (now (d .entry)) (now (d .exit)) ⌝ }
 {
     let head = octets::copy_in(d, &[56, 5, KEY_LIFETIME]);

@@ -15,6 +15,11 @@ module _ {ℓ} {A : Type ℓ} where
   every f [] = true
   every f (x ∷ xs) = f x && every f xs
 
+  -- each has a property
+  abbrev pub Each : (A → Type 0) → List A → Type 0
+  Each P [] = Unit {0}
+  Each P (x ∷ xs) = P x × Each P xs
+
   -- what was found, as an answer, or the answer where nothing was
   abbrev pub entry : {B : Type ℓ} → (A → B) → B → Option A → B
   entry found missing none = missing

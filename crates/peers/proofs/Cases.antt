@@ -22,12 +22,9 @@ address k = 2 ∷ 0 ∷ 0 ∷ 0 ∷ 0 ∷ k ∷ []
 abbrev peer : ℕ → Phase → Peer
 peer k phase = record {
   address = address k;
+  agreed = record { cipher = 4; akm = 21; cached = false; lifetime = record { 0 = 60 } };
   pmkid = replicate 16 0;
-  cached = false;
   phase = phase;
-  cipher = 4;
-  akm = 21;
-  lifetime = record { 0 = 60 };
 }
 
 pub waiting-at-its-deadline : live (peer 1 (Waiting (tu 1000))) (tu 1000) ≡ false

@@ -12,7 +12,7 @@ use Rattle.peers.specs.declared.Peer.{Peer}
 use Rattle.peers.specs.declared.Table.{Table}
 use Rattle.peers.specs.declared.Found.{Found}
 use Rattle.peers.specs.declared.Found.the-variants.{At, Free, Full}
-use Rattle.peers.specs.View.{live, isOf, other, shows, others, full, noPeer}
+use Rattle.peers.specs.View.{live, isOf, other, shows, others, full, vacantPeer, noPeer}
 
 -- no record, latest reading 0
 pub record Nobody (r : Table) : Type 0 where
@@ -34,6 +34,18 @@ abbrev pub Finds : Table → List ℕ → Tu → Found → Type 0
 Finds t a n (At i) = FoundAt t a n i
 Finds t a n Free = Missing t a n false
 Finds t a n Full = Missing t a n true
+
+-- the place that was found is one of the sixteen
+abbrev pub IsPlace : Found → Type 0
+IsPlace (At i) = i < 16
+IsPlace Free = Unit {0}
+IsPlace Full = Unit {0}
+
+-- the record that was found, or a vacant one
+abbrev pub foundPeer : Table → Found → Peer
+foundPeer t (At i) = getD (t .peers) i noPeer
+foundPeer t Free = vacantPeer
+foundPeer t Full = vacantPeer
 
 -- a record, while it is live
 abbrev pub whileLive : Peer → Tu → Option Peer

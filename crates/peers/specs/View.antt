@@ -9,6 +9,7 @@ use Rattle.octets.specs.Choice.{if_then_else_}
 use Rattle.octets.specs.Equality.{sameOctets}
 use Rattle.octets.specs.Search.{first, every}
 use Rattle.units.specs.declared.Tu.{Tu}
+use Rattle.peers.specs.declared.Agreed.{Agreed}
 use Rattle.peers.specs.declared.Phase.{Phase}
 use Rattle.peers.specs.declared.Phase.the-variants.{Waiting, Installed}
 use Rattle.peers.specs.declared.Peer.{Peer}
@@ -55,26 +56,13 @@ absent (some x) = false
 unfoldable pub full : Table → Tu → List ℕ → Bool
 full t n a = absent (shows t n a) && eqb (others t n (a ∷ [])) 16
 
+abbrev pub nothingAgreed : Agreed
+nothingAgreed = record { cipher = 0; akm = 0; cached = false; lifetime = record { 0 = 0 } }
+
 -- the record that is live at no reading
 abbrev pub vacantPeer : Peer
-vacantPeer = record {
-  address = replicate 6 0;
-  pmkid = replicate 16 0;
-  cached = false;
-  phase = Waiting (record { 0 = 0 });
-  cipher = 0;
-  akm = 0;
-  lifetime = record { 0 = 0 };
-}
+vacantPeer = record { address = replicate 6 0; agreed = nothingAgreed; pmkid = replicate 16 0; phase = Waiting (record { 0 = 0 }) }
 
 -- What the rules for an array read past its end. Written so, an element that the code reads is this very term.
 abbrev pub noPeer : Peer
-noPeer = record {
-  address = [];
-  pmkid = [];
-  cached = false;
-  phase = Waiting (record { 0 = 0 });
-  cipher = 0;
-  akm = 0;
-  lifetime = record { 0 = 0 };
-}
+noPeer = record { address = []; agreed = nothingAgreed; pmkid = []; phase = Waiting (record { 0 = 0 }) }

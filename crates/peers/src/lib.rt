@@ -4,7 +4,7 @@ use units::Tu;
 ghost use mathlib.Core.Path.{_≡_};
 ghost use mathlib.Core.List.{[], _∷_};
 ghost use Rattle.peers.specs.View.{until, live, isOf, other, vacantPeer};
-ghost use Rattle.peers.specs.Promises.{Nobody, Finds, Puts, Drops};
+ghost use Rattle.peers.specs.Promises.{Nobody, Finds, IsPlace, foundPeer, Puts, Drops};
 
 // A handshake that waits for its third frame until a deadline, or a key that is installed until its end.
 pub enum Phase {
@@ -12,15 +12,20 @@ pub enum Phase {
     Installed(Tu),
 }
 
-// A record. Where it has no PMKID, `cached` is false and `pmkid` zeros. Two arrays side by side would be copied as one, which takes longer.
-pub struct Peer {
-    pub address: [u8; 6],
-    pub cached: bool,
-    pub pmkid: [u8; 16],
-    pub phase: Phase,
+// What the two sides agreed on. `cached` says whether there is a PMKID; its octets stand beside, since an enum that holds this holds no array.
+pub struct Agreed {
     pub cipher: u8,
     pub akm: u8,
+    pub cached: bool,
     pub lifetime: Seconds,
+}
+
+// A record. Without a PMKID `pmkid` is zeros. Two arrays side by side would be copied as one, which takes longer.
+pub struct Peer {
+    pub address: [u8; 6],
+    pub agreed: Agreed,
+    pub pmkid: [u8; 16],
+    pub phase: Phase,
 }
 
 // Sixteen places, and the latest clock reading. A place is free where its record is not live.
@@ -29,7 +34,7 @@ pub struct Table {
     pub latest: Tu,
 }
 
-// What a search finds of an address: the place of its live record, which only indexes the table that was searched;
+// What a search finds of an address: the place of its live record, which only is-place the table that was searched;
 // or no live record, with room for one, or with sixteen of others.
 pub enum Found {
     At(usize),
@@ -75,14 +80,17 @@ pub fn is_other(p: Peer, address: [u8; 6], at: Tu) -> bool
 pub fn vacant() -> Peer
     ensures { λ r. ⌜ r ≡ vacantPeer ⌝ }
 {
-    Peer {
-        address: [0; 6],
-        pmkid: [0; 16],
-        cached: false,
-        phase: Phase::Waiting(Tu(0)),
+    let nothing = Agreed {
         cipher: 0,
         akm: 0,
+        cached: false,
         lifetime: Seconds(0),
+    };
+    Peer {
+        address: [0; 6],
+        agreed: nothing,
+        pmkid: [0; 16],
+        phase: Phase::Waiting(Tu(0)),
     }
 }
 
@@ -115,6 +123,18 @@ pub fn find(t: Table, address: [u8; 6], reading: Tu) -> Found
         return Found::Free;
     }
     Found::Full
+}
+
+// The record that a search found, or a vacant one.
+pub fn peer_found(t: Table, found: Found) -> Peer
+    requires { ⌜ IsPlace found ⌝ }
+    ensures { λ r. ⌜ r ≡ foundPeer t found ⌝ }
+{
+    match found {
+        Found::At(i) => t.peers[i],
+        Found::Free => vacant(),
+        Found::Full => vacant(),
+    }
 }
 
 // Stores p in the first place without a live record of another address, and clears the further ones. A full table stays as it is.

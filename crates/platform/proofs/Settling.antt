@@ -2,22 +2,16 @@
 use mathlib.Core.Path.{_≡_, refl, sym, ap, subst, _∙_}
 use mathlib.Core.Bool.{Bool, true, false, true≢false}
 use mathlib.Core.List.{List, _∷_}
-use mathlib.Core.Option.{Option, none, some}
 use Prim.Native.Nat.{ℕ, _+_}
 use Rattle.octets.specs.Choice.{if_then_else_}
 use Rattle.octets.specs.Equality.{sameOctets}
 use Rattle.units.specs.declared.Tu.{Tu}
 use Rattle.peers.specs.declared.Peer.{Peer}
-use Rattle.peers.specs.declared.Phase.{Phase}
-use Rattle.peers.specs.declared.Phase.the-variants.{Waiting, Installed}
 use Rattle.peers.specs.declared.Table.{Table}
 use Rattle.peers.specs.Promises.{whileLive, Puts, Drops}
 use Rattle.peers.specs.View.{other, shows, others, full}
-use Rattle.rules.specs.declared.Leaves.{Leaves}
-use Rattle.rules.specs.OnePeer.{Left, same, gone, becomes, waitingGoes, withoutWaiting}
-use Rattle.rules.specs.Told.{leftOf}
-use Rattle.calls.specs.Calls.{isWaiting, waits, changeOf}
-use Rattle.platform.specs.Promises.{leftBy, Settles, isEarly, Dates}
+use Rattle.rules.specs.OnePeer.{Left, same, gone, becomes, isEarly}
+use Rattle.platform.specs.Promises.{Settles, Dates}
 
 -- a table at another latest reading shows the same
 abbrev pub dated : Table → Tu → Table
@@ -59,22 +53,3 @@ module _ (t : Table) (a : List ℕ) (n : Tu) where
   -- the same, by what the verdict says
   pub settles-by : {r : Table} {l l' : Left} → Settles t a n l r → l ≡ l' → Settles t a n l' r
   settles-by {r} s e = subst (λ (l : Left). Settles t a n l r) e s
-
--- a waiting record goes, and an installed one stays
-by-phase : (phase : Phase) → waitingGoes phase ≡ (if isWaiting phase then gone else same)
-by-phase (Waiting deadline) = refl
-by-phase (Installed end) = refl
-
-by-record : (own : Option Peer) → withoutWaiting own ≡ (if waits own then gone else same)
-by-record none = refl
-by-record (some p) = by-phase (p .phase)
-
--- a change leaves what the verdict leaves that asks for it
-pub left-by : (own : Option Peer) (p : Peer) (leaves : Leaves) → leftBy (changeOf own leaves) p ≡ leftOf own leaves p
-left-by own p Leaves.Same = refl
-left-by own p Leaves.WaitingGoes = go (waits own) ∙ sym (by-record own)
-  where
-    go : (b : Bool) → leftBy (if b then Leaves.WaitingGoes else Leaves.Same) p ≡ (if b then gone else same)
-    go true = refl
-    go false = refl
-left-by own p Leaves.Becomes = refl

@@ -6,102 +6,70 @@ use Prim.Native.Nat.{ℕ}
 use lib.Dec.{eqb}
 use Rattle.octets.specs.Choice.{if_then_else_}
 use Rattle.octets.specs.Equality.{sameOctets}
+use Rattle.octets.proofs.Choice.{either-way}
 use Rattle.elements.specs.declared.Opened.{Opened}
+use Rattle.elements.specs.declared.Part.{Part}
 use Rattle.suites.specs.declared.AkmEntry.{AkmEntry}
 use Rattle.suites.specs.Tables.{akmOf, isKeyOf}
-use Rattle.frames.specs.declared.third.Third.{Third}
 use Rattle.frames.specs.Contents.{content}
 use Rattle.frames.specs.Third.{thirdOf}
 use Rattle.peers.specs.declared.Peer.{Peer}
-use Rattle.peers.specs.declared.Phase.{Phase}
-use Rattle.peers.specs.declared.Phase.the-variants.{Waiting, Installed}
-use Rattle.rules.specs.OnePeer.{Call, numberOf, same, becomes, Outcome, waitingGoes, withoutWaiting, Step, refuse, pass, _>>=_, step1, step10, step11, suiteSteps, keySteps, Passed, steps, firstOutcome, firstOn, firstFrame, thirdMic, thirdAkm, thirdOn, thirdFrame, onBody}
+use Rattle.rules.specs.OnePeer.{Call, answerNumber, isEarly, same, becomes, Outcome, goneIf, termsOf, isWaiting, isInstalled, waits, Step, refuse, pass, Passed, steps, firstOutcome, firstFrame, thirdMic, thirdAkm, thirdFrame, onBody}
+use Rattle.rules.proofs.Inversion.{passes}
 use Rattle.platform.specs.Inside.{Seats}
-use Rattle.platform.specs.Promises.{isEarly}
-
--- who passes the eleventh step has room
-abbrev Roomy : Bool → Step Passed → Type 0
-Roomy full (refuse status) = Unit {0}
-Roomy full (pass passed) = full ≡ false
-
-roomy-then : (full : Bool) {A : Type 0} (s : Step A) (f : A → Step Passed) → ((x : A) → Roomy full (f x)) → Roomy full (s >>= f)
-roomy-then full (refuse status) f h = tt
-roomy-then full (pass x) f h = h x
-
-roomy-last : (full : Bool) (passed : Passed) → Roomy full (step11 full >>= (λ _. pass passed))
-roomy-last true passed = tt
-roomy-last false passed = refl
-
-roomy : (call : Call) (full : Bool) → Roomy full (steps call full)
-unfolding steps
-roomy call full =
-    roomy-then full (step1 (call .body)) _ (λ facts.
-    roomy-then full (suiteSteps (call .settings) (facts .format) (facts .rsne)) _ (λ suites.
-    roomy-then full (keySteps (facts .group) (content (call .body) (facts .key)) (call .point)) _ (λ group.
-    roomy-then full (step10 (suites .akm) (call .cache) (call .reading) (content (call .body) (facts .rsne .pmkids))) _ (λ pmkid.
-    roomy-last full _))))
 
 module _ (call : Call) (full : Bool) where
   -- a record that there is is of this address, and has its place
   abbrev pub Placed : Option Peer → Type 0
   Placed none = Unit {0}
-  Placed (some p) = Seats (call .address) full (becomes p)
+  Placed (some p) = Seats (call .brought .address) full (becomes p)
+
+  pub record Sound (own : Option Peer) (o : Outcome) : Type 0 where
+    pub seats : Placed own → Seats (call .brought .address) full (o .leaves)
+    pub late : isEarly (answerNumber (o .answer)) ≡ false
+
+  goes : (waiting : Bool) → Seats (call .brought .address) full (goneIf waiting)
+  goes true = tt
+  goes false = tt
+
+  refused : (spared waiting : Bool) → Seats (call .brought .address) full (if spared then same else goneIf waiting)
+  refused true waiting = tt
+  refused false waiting = goes waiting
 
   module _ (own : Option Peer) where
-    pub record Sound (o : Outcome) : Type 0 where
-      pub seats : Placed own → Seats (call .address) full (o .leaves)
-      pub late : isEarly (numberOf (o .answer)) ≡ false
+    first-sound : (algorithm : ℕ) (s : Step Passed) → steps (call .brought) (call .cache) (call .body) full ≡ s
+        → Sound own (firstOutcome (call .brought) (call .key) algorithm (waits own) s)
+    first-sound algorithm (refuse why) e = record { seats = λ placed. refused (termsOf why .spares) (waits own); late = refl }
+    first-sound algorithm (pass passed) e =
+        either-way (Sound own) (isKeyOf (passed .group) (call .key))
+        (λ _. record { seats = λ placed. (refl, passes (call .brought) (call .cache) (call .body) full e .room); late = refl })
+        (λ _. record { seats = λ placed. tt; late = refl })
 
-    either : (b : Bool) {o p : Outcome} → Sound o → Sound p → Sound (if b then o else p)
-    either true s u = s
-    either false s u = u
-
-  by-phase : (phase : Phase) → Seats (call .address) full (waitingGoes phase)
-  by-phase (Waiting deadline) = tt
-  by-phase (Installed end) = tt
-
-  without : (own : Option Peer) → Seats (call .address) full (withoutWaiting own)
-  without none = tt
-  without (some p) = by-phase (p .phase)
-
-  refused : (status : Bool) (own : Option Peer) → Seats (call .address) full (if status then same else withoutWaiting own)
-  refused true own = tt
-  refused false own = without own
-
-  first-sound : (algorithm : ℕ) (own : Option Peer) (s : Step Passed) → Roomy full s → Sound own (firstOutcome call algorithm own s)
-  first-sound algorithm own (refuse status) h = record { seats = λ placed. refused (eqb status 30) own; late = refl }
-  first-sound algorithm own (pass passed) h =
-      either own (isKeyOf (passed .group) (call .key)) (record { seats = λ placed. (refl, h); late = refl }) (record { seats = λ placed. tt; late = refl })
-
-  first-on : (algorithm : ℕ) (own : Option Peer) (phase : Phase) → Sound own (firstOn call algorithm full own phase)
-  first-on algorithm own (Waiting deadline) = first-sound algorithm own (steps call full) (roomy call full)
-  first-on algorithm own (Installed end) = record { seats = λ placed. tt; late = refl }
-
-  first : (algorithm : ℕ) (own : Option Peer) → Sound own (firstFrame call algorithm full own)
-  first algorithm none = first-sound algorithm none (steps call full) (roomy call full)
-  first algorithm (some p) = first-on algorithm (some p) (p .phase)
+    first : (algorithm : ℕ) → Sound own (firstFrame (call .brought) (call .cache) (call .key) (call .body) algorithm full own)
+    first algorithm =
+        either-way (Sound own) (isInstalled own) (λ _. record { seats = λ placed. tt; late = refl })
+        (λ _. first-sound algorithm (steps (call .brought) (call .cache) (call .body) full) refl)
 
   module _ (p : Peer) where
-    by-mic : (third : Third) → Sound (some p) (thirdMic call p third)
-    by-mic (Third.Mic part) =
-        either (some p) (sameOctets (content (call .body) part) (call .mic)) (record { seats = λ placed. placed; late = refl }) (record { seats = λ placed. tt; late = refl })
-    by-mic Third.Ill = record { seats = λ placed. tt; late = refl }
+    by-mic : (third : Option Part) → Sound (some p) (thirdMic (call .brought .reading) (call .mic) (call .body) p third)
+    by-mic (some part) =
+        either-way (Sound (some p)) (sameOctets (content (call .body) part) (call .mic)) (λ _. record { seats = λ placed. placed; late = refl }) (λ _. record { seats = λ placed. tt; late = refl })
+    by-mic none = record { seats = λ placed. tt; late = refl }
 
-    by-akm : (entry : AkmEntry) → Sound (some p) (thirdAkm call p entry)
+    by-akm : (entry : AkmEntry) → Sound (some p) (thirdAkm (call .brought .reading) (call .mic) (call .body) p entry)
     by-akm (AkmEntry.In akm) = by-mic (thirdOf (call .body) (akm .mic))
     by-akm AkmEntry.NotInTable = record { seats = λ placed. tt; late = refl }
 
-    third-on : (status : ℕ) (phase : Phase) → Sound (some p) (thirdOn call status p phase)
-    third-on status (Waiting deadline) = either (some p) (eqb status 0) (by-akm (akmOf (p .akm))) (record { seats = λ placed. tt; late = refl })
-    third-on status (Installed end) = record { seats = λ placed. tt; late = refl }
-
-  third : (status : ℕ) (own : Option Peer) → Sound own (thirdFrame call status own)
+  third : (status : ℕ) (own : Option Peer) → Sound own (thirdFrame (call .brought .reading) (call .mic) (call .body) status own)
   third status none = record { seats = λ placed. tt; late = refl }
-  third status (some p) = third-on p status (p .phase)
+  third status (some p) =
+      either-way (Sound (some p)) (not (isWaiting (p .phase))) (λ _. record { seats = λ placed. tt; late = refl }) λ _.
+      either-way (Sound (some p)) (not (eqb status 0)) (λ _. record { seats = λ placed. tt; late = refl }) λ _.
+      by-akm p (akmOf (p .agreed .akm))
 
   pub sound : (own : Option Peer) → (opened : Opened) → Sound own (onBody call opened full own)
   sound own (Opened.Body header) =
-      either own (not (eqb (header .algorithm) 7)) (record { seats = λ placed. without own; late = refl })
-      (either own (eqb (header .transaction) 1) (first (header .algorithm) own)
-      (either own (eqb (header .transaction) 3) (third (header .status) own) (record { seats = λ placed. tt; late = refl })))
+      either-way (Sound own) (not (eqb (header .algorithm) 7)) (λ _. record { seats = λ placed. goes (waits own); late = refl }) λ _.
+      either-way (Sound own) (eqb (header .transaction) 1) (λ _. first own (header .algorithm)) λ _.
+      either-way (Sound own) (eqb (header .transaction) 3) (λ _. third (header .status) own) λ _. record { seats = λ placed. tt; late = refl }
   sound own Opened.NoBody = record { seats = λ placed. tt; late = refl }

@@ -1,10 +1,9 @@
 -- What the unit's operations promise, by what the tables show.
 use Prim.Native.Nat.{ℕ, _+_, _≤_}
 use mathlib.Core.Path.{_≡_}
-use mathlib.Core.Bool.{Bool, true, false, _&&_}
+use mathlib.Core.Bool.{true, false}
 use mathlib.Core.List.{List, _∷_}
 use mathlib.Core.Option.{Option, none, some}
-use lib.Dec.{leb}
 use Rattle.octets.specs.Choice.{if_then_else_}
 use Rattle.octets.specs.Equality.{sameOctets}
 use Rattle.octets.specs.Wrote.{Wrote}
@@ -13,9 +12,7 @@ use Rattle.peers.specs.declared.Peer.{Peer}
 use Rattle.peers.specs.declared.Table.{Table}
 use Rattle.peers.specs.View.{other, shows, others, full, vacantPeer}
 use Rattle.peers.specs.Promises.{whileLive}
-use Rattle.rules.specs.declared.Leaves.{Leaves}
-use Rattle.rules.specs.OnePeer.{Call, Left, same, gone, becomes, Outcome, numberOf, receiveOf, removeOf, lookUpOf}
-use Rattle.platform.specs.declared.Decision.{Decision}
+use Rattle.rules.specs.OnePeer.{Call, Left, same, gone, becomes, Outcome, answerNumber, isEarly, receiveOf, removeOf, lookUpOf}
 use Rattle.platform.specs.declared.Received.{Received}
 use Rattle.platform.specs.declared.Removal.{Removal}
 use Rattle.platform.specs.declared.Removed.{Removed}
@@ -40,39 +37,25 @@ pub record Settles (t : Table) (address : List ℕ) (n : Tu) (left : Left) (r : 
       → shows r m b ≡ (if sameOctets address b then shownAfter (shows t m b) m left else shows t m b)
   pub counted : (m : Tu) → n .0 ≤ m .0 → (these : List (List ℕ)) → others r m these ≡ countedAfter t address m these left
 
--- whether an answer is one of 1 to 5
-abbrev pub isEarly : ℕ → Bool
-isEarly number = leb 1 number && leb number 5
-
 -- The answers 1 to 5 leave the table as it was, its latest reading too. Any other sets the latest reading.
 pub record Dates (t : Table) (n : Tu) (number : ℕ) (r : Table) : Type 0 where
   pub early : isEarly number ≡ true → r ≡ t
   pub latest : isEarly number ≡ false → r .latest ≡ n
 
 -- What a receive promises: the answer and the length told, each octet of the reply buffer, the latest reading, and what the table shows.
-pub record Answers (t : Table) (call : Call) (outcome : Outcome) (before after : List ℕ) (r : Received) : Type 0 where
+pub record Answers (t : Table) (call : Call) (outcome : Outcome) (after : List ℕ) (r : Received) : Type 0 where
   pub answer : r .answer ≡ outcome .answer
-  pub reply : Wrote (outcome .reply) (r .length) before after
-  pub dates : Dates t (call .reading) (numberOf (outcome .answer)) (r .table)
-  pub settles : Settles t (call .address) (call .reading) (outcome .leaves) (r .table)
+  pub reply : Wrote (outcome .reply) (r .length) (call .buffer) after
+  pub dates : Dates t (call .brought .reading) (answerNumber (outcome .answer)) (r .table)
+  pub settles : Settles t (call .brought .address) (call .brought .reading) (outcome .leaves) (r .table)
 
--- what a change leaves of this peer's record
-abbrev pub leftBy : Leaves → Peer → Left
-leftBy Leaves.Same p = same
-leftBy Leaves.WaitingGoes p = gone
-leftBy Leaves.Becomes p = becomes p
+-- what the one-peer rules give, by what the table shows of this address
+abbrev pub ruled : Table → Call → Outcome
+ruled t call =
+    receiveOf (t .latest) (full t (call .brought .reading) (call .brought .address)) (shows t (call .brought .reading) (call .brought .address)) call
 
--- What a receive decides, by the latest reading, whether the table is full for this peer, and its record or none.
-pub record DecidesBy (call : Call) (latest : Tu) (full : Bool) (own : Option Peer) (before after : List ℕ) (r : Decision) : Type 0 where
-  pub answer : r .answer ≡ receiveOf latest full own call .answer
-  pub reply : Wrote (receiveOf latest full own call .reply) (r .length) before after
-  pub leaves : leftBy (r .change) (r .peer) ≡ receiveOf latest full own call .leaves
-  pub dates : r .latest ≡ (if isEarly (numberOf (r .answer)) then latest else call .reading)
-
--- A receive gets what the one-peer rules give, by what the table shows of this address.
-abbrev pub Receives : Table → Call → List ℕ → List ℕ → Received → Type 0
-Receives t call before after r =
-    Answers t call (receiveOf (t .latest) (full t (call .reading) (call .address)) (shows t (call .reading) (call .address)) call) before after r
+abbrev pub Receives : Table → Call → List ℕ → Received → Type 0
+Receives t call after r = Answers t call (ruled t call) after r
 
 -- Removal and look-up -------------------------------------------------------------------------------------------------------------------
 
@@ -81,10 +64,6 @@ removalNumber Removal.ClockOut = 1
 removalNumber Removal.GroupAddress = 4
 removalNumber Removal.NoRecord = 17
 removalNumber Removal.Removed = 16
-
--- what a removal answers, by the latest reading and this peer's record or none
-pub record RemovesBy (latest : Tu) (address : List ℕ) (n : Tu) (own : Option Peer) (r : Removal) : Type 0 where
-  pub number : removalNumber r ≡ removeOf latest n address own
 
 -- what a removal leaves of this address's record
 abbrev pub leftByRemoval : Removal → Left
@@ -111,11 +90,6 @@ IsSeen own p LookUp.GroupAddress = p ≡ vacantPeer
 IsSeen own p LookUp.NoRecord = p ≡ vacantPeer
 IsSeen own p LookUp.Shown = own ≡ some p
 
--- What a look-up tells, by the latest reading and this peer's record or none.
-pub record LooksBy (latest : Tu) (address : List ℕ) (n : Tu) (own : Option Peer) (r : LookedUp) : Type 0 where
-  pub number : lookNumber (r .answer) ≡ lookUpOf latest n address own
-  pub shown : IsSeen own (r .peer) (r .answer)
-
--- A look-up gets what the one-peer rules give, by what the table shows of this address.
-abbrev pub LooksUp : Table → List ℕ → Tu → LookedUp → Type 0
-LooksUp t address n r = LooksBy (t .latest) address n (shows t n address) r
+pub record LooksUp (t : Table) (address : List ℕ) (n : Tu) (r : LookedUp) : Type 0 where
+  pub number : lookNumber (r .answer) ≡ lookUpOf (t .latest) n address (shows t n address)
+  pub shown : IsSeen (shows t n address) (r .peer) (r .answer)

@@ -1,15 +1,10 @@
 // The platform unit: sixteen records, and the operations that a host calls. None of them has a `requires`.
 ghost use mathlib.Core.Path.{_≡_};
-ghost use lib.ListN.{length};
-ghost use Rattle.frames.specs.Contents.{content};
-ghost use Rattle.bodies.specs.Bodies.{keyPart, zeroAnswer, zeroed, setAnswer, setOctets};
 ghost use Rattle.peers.specs.Promises.{Nobody};
-ghost use Rattle.peers.specs.View.{vacantPeer};
-ghost use Rattle.rules.specs.OnePeer.{numberOf};
+ghost use Rattle.rules.specs.OnePeer.{answerNumber};
 ghost use Rattle.rules.specs.Told.{callOf};
-ghost use Rattle.calls.specs.Calls.{isFull, seen};
-ghost use Rattle.platform.specs.Promises.{DecidesBy, Receives, RemovesBy, Removes, LooksBy, LooksUp, removalNumber, lookNumber};
-use bodies::MicAnswer;
+ghost use Rattle.platform.specs.Promises.{Receives, Removes, LooksUp, removalNumber, lookNumber};
+use calls::Asked;
 use calls::Checked;
 use peers::Found;
 use peers::Peer;
@@ -54,7 +49,7 @@ pub struct LookedUp {
 
 // The answers' numbers in document 01.
 pub fn answer_number(answer: Answer) -> u8
-    ensures { λ r. ⌜ r ≡ numberOf answer ⌝ }
+    ensures { λ r. ⌜ r ≡ answerNumber answer ⌝ }
 {
     match answer {
         Answer::Accepted => 0,
@@ -105,53 +100,6 @@ pub fn empty() -> Table
     peers::empty()
 }
 
-// What a receive decides, for whoever keeps the records: the change of this peer's record, with `peer` for what it becomes, and the latest reading.
-pub struct Decision {
-    pub answer: Answer,
-    pub length: usize,
-    pub latest: Tu,
-    pub change: Leaves,
-    pub peer: Peer,
-}
-
-// A receive but for the table: `found` and `peer` are what a search told of the address. The reply is as of `receive`.
-pub fn decide(
-    latest: Tu,
-    found: Found,
-    peer: Peer,
-    brought: Brought,
-    file: &[u8],
-    key: &[u8],
-    mic: &[u8],
-    body: &[u8],
-    reply: &mut [u8],
-) -> Decision
-    ensures { λ r. ⌜ DecidesBy (callOf brought (now (file .entry)) (now (key .entry)) (now (mic .entry)) (now (body .entry)) (length (now (reply .entry)))) latest (isFull found) (seen found peer) (now (reply .entry)) (now (reply .exit)) r ⌝ }
-{
-    let reading = brought.reading;
-    let checked = calls::check_call(latest, brought, file, reply.len());
-    if let Checked::Failed(answer) = checked {
-        return Decision {
-            answer: answer,
-            length: 0,
-            latest: latest,
-            change: Leaves::Same,
-            peer: peers::vacant(),
-        };
-    }
-    let verdict = calls::on_body(found, peer, brought, file, key, mic, body, reply);
-    let answer = verdict.answer;
-    let leaves = verdict.leaves;
-    let next = verdict.peer;
-    Decision {
-        answer: answer,
-        length: verdict.length,
-        latest: reading,
-        change: calls::change_of(found, peer, leaves),
-        peer: next,
-    }
-}
-
 fn given_back(table: Table, answer: Answer, length: usize) -> Received
     ensures { λ r. ⌜ r ≡ record { table = table; answer = answer; length = length } ⌝ }
 {
@@ -172,44 +120,35 @@ pub fn receive(
     body: &[u8],
     reply: &mut [u8],
 ) -> Received
-    ensures { λ r. ⌜ Receives t (callOf brought (now (file .entry)) (now (key .entry)) (now (mic .entry)) (now (body .entry)) (length (now (reply .entry)))) (now (reply .entry)) (now (reply .exit)) r ⌝ }
+    ensures { λ r. ⌜ Receives t (callOf brought (now (file .entry)) (now (key .entry)) (now (mic .entry)) (now (body .entry)) (now (reply .entry))) (now (reply .exit)) r ⌝ }
 {
+    let checked = calls::check_call(t.latest, brought, file, reply.len());
+    if let Checked::Failed(answer) = checked {
+        return given_back(t, answer, 0);
+    }
     let address = brought.address;
     let reading = brought.reading;
     let found = peers::find(t, address, reading);
-    let mut peer = peers::vacant();
-    if let Found::At(i) = found {
-        peer = t.peers[i];
-    }
-    let latest = t.latest;
-    let decision = decide(latest, found, peer, brought, file, key, mic, body, reply);
-    let answer = decision.answer;
-    let length = decision.length;
-    let change = decision.change;
-    let next = decision.peer;
-    let dated = decision.latest;
-    t.latest = dated;
-    match change {
+    let peer = peers::peer_found(t, found);
+    let verdict = calls::on_body(found, peer, brought, file, key, mic, body, reply);
+    let answer = verdict.answer;
+    let length = verdict.length;
+    let leaves = verdict.leaves;
+    let pmkid = verdict.pmkid;
+    t.latest = reading;
+    match leaves {
         Leaves::Same => given_back(t, answer, length),
-        Leaves::WaitingGoes => given_back(peers::drop(t, address), answer, length),
-        Leaves::Becomes => given_back(peers::put(t, next, reading), answer, length),
+        Leaves::Gone => given_back(peers::drop(t, address), answer, length),
+        Leaves::Becomes(agreed, phase) => {
+            let next = Peer {
+                address: address,
+                agreed: agreed,
+                pmkid: pmkid,
+                phase: phase,
+            };
+            given_back(peers::put(t, next, reading), answer, length)
+        }
     }
-}
-
-// A removal but for the table, as `decide` is a receive: its answer.
-pub fn decide_removal(latest: Tu, found: Found, address: [u8; 6], reading: Tu) -> Removal
-    ensures { λ r. ⌜ RemovesBy latest address reading (seen found vacantPeer) r ⌝ }
-{
-    if !calls::clock_fits(latest, reading) {
-        return Removal::ClockOut;
-    }
-    if calls::is_group_address(address) {
-        return Removal::GroupAddress;
-    }
-    let Found::At(_) = found else {
-        return Removal::NoRecord;
-    };
-    Removal::Removed
 }
 
 fn taken_out(table: Table, answer: Removal) -> Removed
@@ -222,52 +161,29 @@ fn taken_out(table: Table, answer: Removal) -> Removed
 }
 
 // A peer's record is removed, waiting or installed.
-pub fn remove(t: Table, address: [u8; 6], reading: Tu) -> Removed
+pub fn remove(mut t: Table, address: [u8; 6], reading: Tu) -> Removed
     ensures { λ r. ⌜ Removes t address reading r ⌝ }
 {
-    let latest = t.latest;
-    let found = peers::find(t, address, reading);
-    let answer = decide_removal(latest, found, address, reading);
-    let mut u = t;
-    u.latest = reading;
-    match answer {
-        Removal::ClockOut => taken_out(t, answer),
-        Removal::GroupAddress => taken_out(t, answer),
-        Removal::NoRecord => taken_out(u, answer),
-        Removal::Removed => taken_out(peers::drop(u, address), answer),
+    let asked = calls::check_address(t.latest, address, reading);
+    match asked {
+        Asked::ClockOut => taken_out(t, Removal::ClockOut),
+        Asked::GroupAddress => taken_out(t, Removal::GroupAddress),
+        Asked::Passed => {
+            let found = peers::find(t, address, reading);
+            t.latest = reading;
+            let Found::At(_) = found else {
+                return taken_out(t, Removal::NoRecord);
+            };
+            taken_out(peers::drop(t, address), Removal::Removed)
+        }
     }
 }
 
-fn nothing_shown(answer: LookUp) -> LookedUp
-    ensures { λ r. ⌜ (r .answer ≡ answer) × (r .peer ≡ vacantPeer) ⌝ }
+fn looked(answer: LookUp, peer: Peer) -> LookedUp
+    ensures { λ r. ⌜ r ≡ record { answer = answer; peer = peer } ⌝ }
 {
     LookedUp {
         answer: answer,
-        peer: peers::vacant(),
-    }
-}
-
-// A look-up but for the table.
-pub fn decide_look_up(
-    latest: Tu,
-    found: Found,
-    peer: Peer,
-    address: [u8; 6],
-    reading: Tu,
-) -> LookedUp
-    ensures { λ r. ⌜ LooksBy latest address reading (seen found peer) r ⌝ }
-{
-    if !calls::clock_fits(latest, reading) {
-        return nothing_shown(LookUp::ClockOut);
-    }
-    if calls::is_group_address(address) {
-        return nothing_shown(LookUp::GroupAddress);
-    }
-    let Found::At(_) = found else {
-        return nothing_shown(LookUp::NoRecord);
-    };
-    LookedUp {
-        answer: LookUp::Shown,
         peer: peer,
     }
 }
@@ -276,32 +192,17 @@ pub fn decide_look_up(
 pub fn look_up(t: Table, address: [u8; 6], reading: Tu) -> LookedUp
     ensures { λ r. ⌜ LooksUp t address reading r ⌝ }
 {
-    let latest = t.latest;
-    let found = peers::find(t, address, reading);
-    let mut shown = peers::vacant();
-    if let Found::At(i) = found {
-        shown = t.peers[i];
+    let asked = calls::check_address(t.latest, address, reading);
+    match asked {
+        Asked::ClockOut => looked(LookUp::ClockOut, peers::vacant()),
+        Asked::GroupAddress => looked(LookUp::GroupAddress, peers::vacant()),
+        Asked::Passed => {
+            let found = peers::find(t, address, reading);
+            let Found::At(i) = found else {
+                return looked(LookUp::NoRecord, peers::vacant());
+            };
+            let peer = t.peers[i];
+            looked(LookUp::Shown, peer)
+        }
     }
-    decide_look_up(latest, found, shown, address, reading)
-}
-
-// The operations on bodies, as `bodies` has them.
-pub fn show_key(body: &[u8]) -> &[u8]
-    ensures { λ r. ⌜ now r ≡ content (now (body .entry)) (keyPart (now (body .entry))) ⌝ }
-{
-    bodies::show_key(body)
-}
-
-pub fn zero_mic(body: &[u8], out: &mut [u8]) -> MicAnswer
-    ensures answers { λ r. ⌜ r ≡ zeroAnswer (now (body .entry)) (length (now (out .entry))) ⌝ }
-    ensures leaves { λ _. ⌜ now (out .exit) ≡ zeroed (now (body .entry)) (now (out .entry)) ⌝ }
-{
-    bodies::zero_mic(body, out)
-}
-
-pub fn set_mic(body: &mut [u8], mic: &[u8]) -> MicAnswer
-    ensures answers { λ r. ⌜ r ≡ setAnswer (now (body .entry)) (now (mic .entry)) ⌝ }
-    ensures leaves { λ _. ⌜ now (body .exit) ≡ setOctets (now (body .entry)) (now (mic .entry)) ⌝ }
-{
-    bodies::set_mic(body, mic)
 }

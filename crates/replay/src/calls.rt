@@ -103,11 +103,12 @@ fn receive_with(
         return refuse(t);
     }
     let settings = s.settings;
+    let lent = s.lent;
     let brought = Brought {
         settings: settings,
         reading: reading_of(value),
         address: address_of(value),
-        point: s.point,
+        lent: lent,
     };
     hear(t, brought, cache, key, mic, &value[WHO..], reply)
 }
@@ -163,7 +164,7 @@ fn show_key(t: Table, body: &[u8]) -> Called {
     if body.len() > LONGEST_BODY {
         return refuse(t);
     }
-    lines::put_key(platform::show_key(body));
+    lines::put_key(chip::show_key(body));
     done(t)
 }
 
@@ -182,7 +183,7 @@ fn zero_mic(t: Table, value: &[u8], second: &mut [u8]) -> Called
     }
     let n = room as usize;
     let body_length = value.len() - 2;
-    let answer = platform::zero_mic(&value[2..], &mut second[0..n]);
+    let answer = chip::zero_mic(&value[2..], &mut second[0..n]);
     lines::put_mic(b"zero ", answer, &second[0..body_length]);
     done(t)
 }
@@ -194,7 +195,7 @@ fn set_mic(t: Table, lent: u8, body: &mut [u8], mic: &[u8]) -> Called
         return refuse(t);
     }
     let n = lent as usize;
-    let answer = platform::set_mic(body, &mic[0..n]);
+    let answer = chip::set_mic(body, &mic[0..n]);
     lines::put_mic(b"set ", answer, body);
     done(t)
 }

@@ -2,7 +2,7 @@
 use crate::text::put;
 use crate::text::put_number;
 use crate::text::put_octets;
-use bodies::MicAnswer;
+use chip::MicAnswer;
 use peers::Peer;
 use peers::Phase;
 use platform::LookUp;
@@ -12,8 +12,8 @@ use rules::Answer;
 
 fn put_status(answer: Answer) {
     match answer {
-        Answer::Refused(status) => {
-            put_number(status as u64);
+        Answer::Refused(why) => {
+            put_number(rules::status_of(why) as u64);
         }
         _ => {
             put(b"-");
@@ -34,7 +34,8 @@ pub fn put_received(answer: Answer, reply: &[u8]) {
 }
 
 fn put_pmkid(peer: Peer) {
-    if peer.cached {
+    let agreed = peer.agreed;
+    if agreed.cached {
         put_octets(&peer.pmkid);
     } else {
         put(b"-");
@@ -43,11 +44,12 @@ fn put_pmkid(peer: Peer) {
 
 fn put_peer(peer: Peer) {
     let phase = peer.phase;
-    let lifetime = peer.lifetime;
+    let agreed = peer.agreed;
+    let lifetime = agreed.lifetime;
     put_phase(phase);
-    put_number(peer.cipher as u64);
+    put_number(agreed.cipher as u64);
     put(b" ");
-    put_number(peer.akm as u64);
+    put_number(agreed.akm as u64);
     put(b" ");
     put_pmkid(peer);
     put(b" ");
@@ -94,7 +96,7 @@ pub fn put_key(key: &[u8]) {
 // What setting or zeroing a MIC comes to; `output` is shown where it was done.
 pub fn put_mic(operation: &[u8], answer: MicAnswer, output: &[u8]) {
     put(operation);
-    put_number(bodies::number_of(answer) as u64);
+    put_number(chip::mic_number(answer) as u64);
     put(b" ");
     if let MicAnswer::Done = answer {
         put_octets(output);

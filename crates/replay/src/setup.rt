@@ -1,4 +1,6 @@
 // What set-up records leave in force until the next one of their tag.
+use frames::second::LONGEST;
+use rules::Lent;
 use rules::Settings;
 use units::Seconds;
 use units::Tu;
@@ -17,7 +19,7 @@ pub const LONGEST_BUFFER: u16 = 2048;
 pub struct Setup {
     pub settings: Settings,
     pub cache: u16,
-    pub point: bool,
+    pub lent: Lent,
     pub key: u8,
     pub mic: u8,
     pub room: u16,
@@ -32,13 +34,14 @@ pub fn start() -> Setup {
         lifetime: Seconds(0),
         deadline: Tu(0),
     };
+    let lent = Lent { point: false };
     Setup {
         settings: settings,
         cache: 0,
-        point: false,
+        lent: lent,
         key: 0,
         mic: 0,
-        room: 148,
+        room: LONGEST as u16,
         fits: true,
     }
 }
@@ -82,10 +85,10 @@ fn set_point(s: Setup, value: &[u8]) -> Setup {
     if value.len() != 1 {
         return refuse(s);
     }
-    Setup {
+    let lent = Lent {
         point: value[0] != 0,
-        ..s
-    }
+    };
+    Setup { lent: lent, ..s }
 }
 
 fn set_own_key(s: Setup, value: &[u8], key: &mut [u8; LONGEST_LENT]) -> Setup {

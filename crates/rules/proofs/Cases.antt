@@ -1,10 +1,12 @@
--- Worked examples, in document 01's numbers, its edges P7 to P10 among them. The frames are another implementation's, and what one octet makes of them.
+-- Worked examples, in document 01's numbers. Its edges P1 to P10 stand in `Edges` of `demands`.
+use Prim.Native.Nat.{ℕ, _+_, _/_, _^_}
 use mathlib.Core.Path.{_≡_, refl}
 use mathlib.Core.Bool.{Bool, true, false}
-use mathlib.Core.List.{List, [], _∷_, _++_}
+use mathlib.Core.List.{List, [], _∷_, _++_, map}
 use mathlib.Core.Option.{Option, none, some}
-use Prim.Native.Nat.{ℕ, _+_, _/_, _^_}
+use lib.Dec.{eqb}
 use lib.ListN.{length, replicate}
+use Rattle.octets.specs.Choice.{if_then_else_}
 use Rattle.octets.specs.Numbers.{le, octets}
 use Rattle.octets.specs.Pieces.{pieces}
 use Rattle.octets.specs.Search.{first}
@@ -18,17 +20,19 @@ use Rattle.layouts.specs.Parameters.{parametersOf, parametersOctets}
 use Rattle.layouts.specs.Rsne.{rsneOf, rsneOctets}
 use Rattle.layouts.specs.Timeout.{timeoutOf, timeoutOctets}
 use Rattle.frames.specs.First.{firstOf}
-use Rattle.frames.specs.Second.{headerOctets, secondOctets}
+use Rattle.frames.specs.Header.{headerOctets}
+use Rattle.frames.specs.Second.{secondOctets}
 use Rattle.frames.specs.Third.{thirdOf}
 use Rattle.cache.specs.File.{isWellFormed, recordsOf}
 use Rattle.cache.specs.Search.{choiceOf}
 use Rattle.peers.specs.declared.Peer.{Peer}
 use Rattle.peers.specs.declared.Phase.{Phase}
 use Rattle.peers.specs.declared.Phase.the-variants.{Waiting, Installed}
+use Rattle.rules.specs.declared.Answer.{Answer}
+use Rattle.rules.specs.declared.Refusal.{Refusal}
 use Rattle.rules.specs.declared.Settings.{Settings}
-use Rattle.rules.specs.OnePeer.{Call, Outcome, peerAfter, numberOf, statusOf, receiveOf, removeOf, lookUpOf}
-
--- What a call brings -------------------------------------------------------------------------------------------------------------------
+use Rattle.rules.specs.Alone.{receive, remove, lookUp, answered, removed, found, aloneGets, aloneAfter}
+use Rattle.rules.specs.OnePeer.{Call, Outcome, answerNumber, statusBeside, peerAfter, receiveOf, removeOf, lookUpOf}
 
 abbrev tu : ℕ → Tu
 tu n = record { 0 = n }
@@ -37,60 +41,7 @@ tu n = record { 0 = n }
 abbrev id : ℕ → List ℕ
 id b = replicate 16 b
 
-abbrev station : List ℕ
-station = 0x02 ∷ 0x90 ∷ 0x4c ∷ 0x01 ∷ 0xc1 ∷ 0x06 ∷ []
-
--- 15 allows all four ciphers
-abbrev settings : Bool → ℕ → ℕ → ℕ → Settings
-settings pmkless ciphers lifetime deadline =
-    record { pmkless = pmkless; ciphers = ciphers; lifetime = record { 0 = lifetime }; deadline = tu deadline }
-
-abbrev usual : Settings
-usual = settings true 15 3600 1000
-
--- a cache of one record
-abbrev cached : ℕ → ℕ → ℕ → List ℕ
-cached b akm end = (0x31 ∷ 25 ∷ 0 ∷ []) ++ id b ++ (akm ∷ octets 8 end)
-
-abbrev ownKey : List ℕ
-ownKey = 2 ∷ replicate 32 0x5a
-
-abbrev mic : List ℕ
-mic = 0x81 ∷ 0xc7 ∷ 0xbb ∷ 0xff ∷ 0xc7 ∷ 0x99 ∷ 0x61 ∷ 0x39 ∷ 0x6d ∷ 0x45 ∷ 0xd3 ∷ 0x76 ∷ 0xdf ∷ 0x8d ∷ 0x5b ∷ 0xa8 ∷ []
-
--- a call, by what is checked before the body, and the body
-abbrev checked : ℕ → ℕ → Settings → List ℕ → List ℕ → List ℕ → Call
-checked reading room s address cache body = record {
-  settings = s;
-  cache = cache;
-  reading = tu reading;
-  address = address;
-  point = true;
-  key = ownKey;
-  mic = mic;
-  body = body;
-  room = room;
-}
-
--- a call at 5000, by what the steps look at
-abbrev asking : Settings → List ℕ → Bool → List ℕ → List ℕ → Call
-asking s cache point key body = record {
-  settings = s;
-  cache = cache;
-  reading = tu 5000;
-  address = station;
-  point = point;
-  key = key;
-  mic = mic;
-  body = body;
-  room = 148;
-}
-
--- with the usual settings, and the PMKID of sixteen octets A8 in the cache under AKM 8
-abbrev hears : List ℕ → Call
-hears body = asking usual (cached 0xa8 8 9000) true ownKey body
-
--- The frames ----------------------------------------------------------------------------------------------------------------------------
+-- Frames, octet by octet ----------------------------------------------------------------------------------------------------------------
 
 abbrev header : ℕ → ℕ → ℕ → List ℕ
 header algorithm transaction status = algorithm ∷ 0 ∷ transaction ∷ 0 ∷ status ∷ 0 ∷ []
@@ -98,385 +49,325 @@ header algorithm transaction status = algorithm ∷ 0 ∷ transaction ∷ 0 ∷ 
 abbrev suite : ℕ → List ℕ
 suite kind = 0x00 ∷ 0x0f ∷ 0xac ∷ kind ∷ []
 
--- with the group, pairwise and group management cipher, the AKM, the capabilities and the PMKIDs
+-- with the group, group management and pairwise cipher, the AKM, the capabilities and the PMKIDs
 abbrev rsne : ℕ → ℕ → ℕ → ℕ → ℕ → List ℕ → List ℕ
-rsne group pairwise management akm capabilities pmkids =
-    (0x30 ∷ (26 + length pmkids) ∷ 1 ∷ 0 ∷ suite group)
+rsne group management pairwise akm capabilities pmkids =
+    (48 ∷ (26 + length pmkids) ∷ 1 ∷ 0 ∷ suite group)
     ++ (1 ∷ 0 ∷ suite pairwise)
     ++ (1 ∷ 0 ∷ suite akm)
     ++ (capabilities ∷ 0 ∷ length pmkids / 16 ∷ 0 ∷ pmkids)
     ++ suite management
 
-abbrev theirKey : List ℕ
-theirKey =
-    0x03 ∷ 0xb2 ∷ 0xdd ∷ 0xb4 ∷ 0x85 ∷ 0xbf ∷ 0xe3 ∷ 0xa9 ∷ 0x71 ∷ 0xac ∷ 0xb1 ∷ 0x00 ∷ 0x5a ∷ 0x8f ∷ 0x95 ∷ 0xb8
-    ∷ 0x56 ∷ 0x4d ∷ 0x39 ∷ 0x15 ∷ 0xc8 ∷ 0x9d ∷ 0x2d ∷ 0x62 ∷ 0x38 ∷ 0x8b ∷ 0xba ∷ 0xc9 ∷ 0x2a ∷ 0xae ∷ 0xf5 ∷ 0x66
-    ∷ 0x11
-    ∷ []
+-- a lifetime of low + 256 high seconds
+abbrev timeout : ℕ → ℕ → List ℕ
+timeout low high = 56 ∷ 5 ∷ 2 ∷ low ∷ high ∷ 0 ∷ 0 ∷ []
 
 abbrev parameters : ℕ → ℕ → List ℕ → List ℕ
-parameters format group key = (0xff ∷ (6 + length key) ∷ 0x64 ∷ 0x02 ∷ format ∷ group ∷ 0 ∷ length key ∷ []) ++ key
+parameters format group key = (255 ∷ 39 ∷ 100 ∷ 2 ∷ format ∷ group ∷ 0 ∷ 33 ∷ []) ++ key
 
-abbrev timeout : List ℕ
-timeout = (0xf4 ∷ 0x01 ∷ 0x20 ∷ []) ++ (0x38 ∷ 0x05 ∷ 0x02 ∷ 0x58 ∷ 0x02 ∷ 0x00 ∷ 0x00 ∷ [])
+-- Wrapped Data, empty, beside a format that is not 0
+abbrev wrapped : ℕ → List ℕ
+wrapped format = if eqb format 0 then [] else 255 ∷ 1 ∷ 8 ∷ []
 
--- hostap's first frame, but for its RSNE
-abbrev with-rsne : List ℕ → List ℕ
-with-rsne r = header 7 1 0 ++ r ++ parameters 0 19 theirKey ++ timeout
+-- A first frame without a Timeout, by what the steps look at: the wrapped format; the group, group management and pairwise cipher; the AKM; the
+-- capabilities; the group; the first of the key's 33 octets; the PMKIDs.
+abbrev firstBody : ℕ → ℕ → ℕ → ℕ → ℕ → ℕ → ℕ → ℕ → List ℕ → List ℕ
+firstBody format cipher management pairwise akm capabilities group octet pmkids =
+    header 7 1 0 ++ rsne cipher management pairwise akm capabilities pmkids ++ parameters format group (octet ∷ replicate 32 0x77) ++ wrapped format
 
--- and but for its PASN Parameters
-abbrev with-parameters : List ℕ → List ℕ
-with-parameters p = header 7 1 0 ++ rsne 7 4 7 8 0xc0 (id 0xa8) ++ p ++ timeout
+-- one that passes where that PMKID is cached under AKM 8
+abbrev usualBody : List ℕ
+usualBody = firstBody 0 7 7 4 8 0xc0 19 3 (id 0xa8)
 
-abbrev firstFrame : List ℕ
-firstFrame = with-rsne (rsne 7 4 7 8 0xc0 (id 0xa8))
+-- a third frame, with a MIC of sixteen equal octets
+abbrev thirdBody : ℕ → ℕ → List ℕ
+thirdBody status octet = header 7 3 status ++ (255 ∷ 3 ∷ 100 ∷ 0 ∷ 0 ∷ []) ++ (140 ∷ 16 ∷ id octet)
 
--- hostap's third frame, with another status
-abbrev thirdWith : ℕ → List ℕ
-thirdWith status = header 7 3 status ++ (0xff ∷ 0x03 ∷ 0x64 ∷ 0x00 ∷ 0x00 ∷ []) ++ (0x8c ∷ 0x10 ∷ mic)
+-- Calls ---------------------------------------------------------------------------------------------------------------------------------
+
+-- PASN without a PMK, the ciphers (1 is cipher 4 alone, 15 all four), the lifetime and the deadline
+abbrev settings : Bool → ℕ → ℕ → ℕ → Settings
+settings pmkless ciphers lifetime deadline =
+    record { pmkless = pmkless; ciphers = ciphers; lifetime = record { 0 = lifetime }; deadline = tu deadline }
+
+abbrev usual : Settings
+usual = settings true 15 3600 1000
+
+abbrev station : List ℕ
+station = 2 ∷ replicate 5 0
+
+abbrev groupAddress : List ℕ
+groupAddress = 1 ∷ replicate 5 0
+
+abbrev ownKey : List ℕ
+ownKey = 2 ∷ replicate 32 0x5a
+
+-- a cache with the PMKID of sixteen octets A8, under an AKM, until 9,000 TU
+abbrev cached : ℕ → List ℕ
+cached akm = (0x31 ∷ 25 ∷ 0 ∷ []) ++ id 0xa8 ++ (akm ∷ octets 8 9000)
+
+-- the lent MIC is sixteen octets 3C
+abbrev call : ℕ → ℕ → Settings → List ℕ → List ℕ → Bool → List ℕ → List ℕ → Call
+call reading room s address cache point key body = record {
+  brought = record { settings = s; reading = tu reading; address = address; lent = record { point = point } };
+  cache = cache;
+  key = key;
+  mic = id 0x3c;
+  body = body;
+  buffer = replicate room 0;
+}
+
+-- by what is checked before the body: the reading, the reply buffer's length, the settings, the address and the cache
+abbrev checked : ℕ → ℕ → Settings → List ℕ → List ℕ → List ℕ → Call
+checked reading room s address cache body = call reading room s address cache true ownKey body
+
+-- at 5,000 TU, by the settings, the cache and the frame
+abbrev tried : Settings → List ℕ → List ℕ → Call
+tried s cache body = checked 5000 148 s station cache body
+
+abbrev hears : List ℕ → Call
+hears body = tried usual (cached 8) body
+
+-- with a lent point check, a cache and a frame, where cipher 4 alone is allowed, AKM 21 is not, and our own key has 32 octets
+abbrev strict : Bool → List ℕ → List ℕ → Call
+strict point cache body = call 5000 148 (settings false 1 3600 1000) station cache point (replicate 32 2) body
 
 -- The records ---------------------------------------------------------------------------------------------------------------------------
 
-abbrev peer : Phase → ℕ → ℕ → ℕ → Peer
-peer phase cipher akm lifetime = record {
-  address = station;
-  pmkid = id 0xa8;
-  cached = true;
-  phase = phase;
-  cipher = cipher;
-  akm = akm;
-  lifetime = record { 0 = lifetime };
-}
+-- with cipher 4
+abbrev peer : Phase → ℕ → Bool → List ℕ → ℕ → Option Peer
+peer phase akm cached pmkid lifetime =
+    some (record {
+      address = station;
+      agreed = record { cipher = 4; akm = akm; cached = cached; lifetime = record { 0 = lifetime } };
+      pmkid = pmkid;
+      phase = phase;
+    })
 
 -- of an exchange that was begun before
 abbrev older : Option Peer
-older = some (peer (Waiting (tu 5500)) 10 5 60)
+older = peer (Waiting (tu 5500)) 5 true (id 0xa5) 60
 
 abbrev waiting : Option Peer
-waiting = some (peer (Waiting (tu 6000)) 4 8 600)
+waiting = peer (Waiting (tu 6000)) 8 true (id 0xa8) 600
 
--- 600 s are 585,937 TU
+-- at 5,000 TU; 600 s are 585,937 TU
 abbrev installed : Option Peer
-installed = some (peer (Installed (tu 590937)) 4 8 600)
+installed = peer (Installed (tu 590937)) 8 true (id 0xa8) 600
 
 -- What it comes to ----------------------------------------------------------------------------------------------------------------------
 
--- the answer's number, the status beside it, the reply and this peer's record afterwards
+-- the latest reading is 4,000 TU
+unfoldable pub gets : Bool → Option Peer → Call → Outcome
+unfolding
+    receiveOf isWellFormed recordsOf choiceOf pieces first bodyOf scanOf firstOf thirdOf rsneOf timeoutOf parametersOf suiteAt le akmOf cipherOf groupOf isKeyOf
+    headerOctets secondOctets rsneOctets timeoutOctets parametersOctets micOctets suiteOctets octets
+gets full own c = receiveOf (tu 4000) full own c
+
+abbrev number : Call → ℕ
+number c = answerNumber (gets false none c .answer)
+
+abbrev status : Call → Option ℕ
+status c = statusBeside (gets false none c .answer)
+
+-- the answer's number, the status beside it, the reply, and this peer's record afterwards
 pub record Shown : Type 0 where
   pub number : ℕ
   pub status : Option ℕ
   pub reply : List ℕ
   pub peer : Option Peer
 
--- the latest reading is 4000
-unfoldable pub received : Bool → Option Peer → Call → Shown
-unfolding
-    receiveOf isWellFormed recordsOf choiceOf pieces first bodyOf scanOf firstOf thirdOf rsneOf timeoutOf parametersOf suiteAt le akmOf cipherOf groupOf isKeyOf
-    headerOctets secondOctets rsneOctets timeoutOctets parametersOctets micOctets suiteOctets octets
-received full own call = shown own (receiveOf (tu 4000) full own call)
-  where
-    shown : Option Peer → Outcome → Shown
-    shown own o = record { number = numberOf (o .answer); status = statusOf (o .answer); reply = o .reply; peer = peerAfter own (o .leaves) }
+abbrev shown : Option Peer → Outcome → Shown
+shown own o = record { number = answerNumber (o .answer); status = statusBeside (o .answer); reply = o .reply; peer = peerAfter own (o .leaves) }
+
+abbrev received : Bool → Option Peer → Call → Shown
+received full own c = shown own (gets full own c)
 
 -- nothing is written
 abbrev silent : ℕ → Option Peer → Shown
 silent number after = record { number = number; status = none; reply = []; peer = after }
 
--- 11, with its 6-octet reply
 abbrev refused : ℕ → Option Peer → Shown
 refused status after = record { number = 11; status = some status; reply = header 7 2 status; peer = after }
 
--- Before the frame is looked at --------------------------------------------------------------------------------------------------------
-
-pub clock-back : received false older (checked 3999 148 usual station [] firstFrame) ≡ silent 1 older
-unfolding received
-clock-back = refl
-
-pub clock-over : received false older (checked (2 ^ 48 + 1) 148 usual station [] firstFrame) ≡ silent 1 older
-unfolding received
-clock-over = refl
-
--- the highest reading is taken, and so is the latest one again
-pub clock-highest : received false older (checked (2 ^ 48) 148 usual station [] (header 7 2 0)) ≡ silent 9 older
-unfolding received
-clock-highest = refl
-
-pub clock-again : received false older (checked 4000 148 usual station [] (header 7 2 0)) ≡ silent 9 older
-unfolding received
-clock-again = refl
-
--- P7; with 148 a frame of transaction 2 comes to its own answer
-pub buffer-of-147 : received false older (checked 5000 147 usual station [] firstFrame) ≡ silent 2 older
-unfolding received
-buffer-of-147 = refl
-
-pub buffer-of-148 : received false older (checked 5000 148 usual station [] (header 7 2 0)) ≡ silent 9 older
-unfolding received
-buffer-of-148 = refl
-
-pub lifetime-of-0 : received false older (checked 5000 148 (settings true 15 0 1000) station [] firstFrame) ≡ silent 3 older
-unfolding received
-lifetime-of-0 = refl
-
-pub lifetime-of-86401 : received false older (checked 5000 148 (settings true 15 86401 1000) station [] firstFrame) ≡ silent 3 older
-unfolding received
-lifetime-of-86401 = refl
-
-pub deadline-of-0 : received false older (checked 5000 148 (settings true 15 3600 0) station [] firstFrame) ≡ silent 3 older
-unfolding received
-deadline-of-0 = refl
-
-pub deadline-of-10001 : received false older (checked 5000 148 (settings true 15 3600 10001) station [] firstFrame) ≡ silent 3 older
-unfolding received
-deadline-of-10001 = refl
-
-pub widest-settings : received false older (checked 5000 148 (settings true 15 86400 10000) station [] (header 7 2 0)) ≡ silent 9 older
-unfolding received
-widest-settings = refl
-
--- P8
-pub address-01 : received false older (checked 5000 148 usual (1 ∷ replicate 5 0) [] firstFrame) ≡ silent 4 older
-unfolding received
-address-01 = refl
-
-pub address-02 : received false older (checked 5000 148 usual (2 ∷ replicate 5 0) [] (header 7 2 0)) ≡ silent 9 older
-unfolding received
-address-02 = refl
-
-pub cache-of-tag-32 : received false older (checked 5000 148 usual station (0x32 ∷ 25 ∷ 0 ∷ replicate 25 0) firstFrame) ≡ silent 5 older
-unfolding received
-cache-of-tag-32 = refl
-
--- the first of five that are wrong
-pub all-wrong : received false older (checked 3999 147 (settings true 15 0 0) (1 ∷ []) (0 ∷ []) []) ≡ silent 1 older
-unfolding received
-all-wrong = refl
-
-pub all-but-the-clock : received false older (checked 4000 147 (settings true 15 0 0) (1 ∷ []) (0 ∷ []) []) ≡ silent 2 older
-unfolding received
-all-but-the-clock = refl
-
-pub body-of-5 : received false older (hears (7 ∷ 0 ∷ 1 ∷ 0 ∷ 0 ∷ [])) ≡ silent 7 older
-unfolding received
-body-of-5 = refl
-
-pub algorithm-6-waiting : received false older (hears (header 6 1 0)) ≡ silent 8 none
-unfolding received
-algorithm-6-waiting = refl
-
-pub algorithm-6-installed : received false installed (hears (header 6 1 0)) ≡ silent 8 installed
-unfolding received
-algorithm-6-installed = refl
-
-pub transaction-2 : received false older (hears (header 7 2 0)) ≡ silent 9 older
-unfolding received
-transaction-2 = refl
-
--- The first frame ----------------------------------------------------------------------------------------------------------------------
-
-pub first-installed : received false installed (hears firstFrame) ≡ silent 10 installed
-unfolding received
-first-installed = refl
-
--- 1. RSNE and PASN Parameters are missing
-pub status-40-no-elements : received false older (hears (header 7 1 0)) ≡ refused 40 none
-unfolding received
-status-40-no-elements = refl
-
--- 2.
-pub status-1-format-1 : received false older (hears (with-parameters (parameters 1 19 theirKey) ++ (0xff ∷ 0x01 ∷ 0x08 ∷ []))) ≡ refused 1 none
-unfolding received
-status-1-format-1 = refl
-
--- 3.
-pub status-41-group : received false older (hears (with-rsne (rsne 4 4 7 8 0xc0 (id 0xa8)))) ≡ refused 41 none
-unfolding received
-status-41-group = refl
-
-pub status-41-management : received false older (hears (with-rsne (rsne 7 4 6 8 0xc0 (id 0xa8)))) ≡ refused 41 none
-unfolding received
-status-41-management = refl
-
--- 4. all ciphers but 4 are allowed
-pub status-42 : received false older (asking (settings true 14 3600 1000) (cached 0xa8 8 9000) true ownKey firstFrame) ≡ refused 42 none
-unfolding received
-status-42 = refl
-
--- 5.
-pub status-43 : received false older (hears (with-rsne (rsne 7 4 7 9 0xc0 (id 0xa8)))) ≡ refused 43 none
-unfolding received
-status-43 = refl
-
-pub status-43-no-pmk : received false older (asking (settings false 15 3600 1000) [] true ownKey (with-rsne (rsne 7 4 7 21 0xc0 []))) ≡ refused 43 none
-unfolding received
-status-43-no-pmk = refl
-
--- 6.
-pub status-45-mfpr : received false older (hears (with-rsne (rsne 7 4 7 8 0x80 (id 0xa8)))) ≡ refused 45 none
-unfolding received
-status-45-mfpr = refl
-
-pub status-45-mfpc : received false older (hears (with-rsne (rsne 7 4 7 8 0x40 (id 0xa8)))) ≡ refused 45 none
-unfolding received
-status-45-mfpc = refl
-
-pub status-45-no-pairwise : received false older (hears (with-rsne (rsne 7 4 7 8 0xc2 (id 0xa8)))) ≡ refused 45 none
-unfolding received
-status-45-no-pairwise = refl
-
--- 7.
-pub status-77 : received false older (hears (with-parameters (parameters 0 20 theirKey))) ≡ refused 77 none
-unfolding received
-status-77 = refl
-
--- 8. first octet 4 with 33 octets
-pub status-40-key : received false older (hears (with-parameters (parameters 0 19 (4 ∷ replicate 32 0)))) ≡ refused 40 none
-unfolding received
-status-40-key = refl
-
--- 9.
-pub status-1-point : received false older (asking usual (cached 0xa8 8 9000) false ownKey firstFrame) ≡ refused 1 none
-unfolding received
-status-1-point = refl
-
--- 10. P9; the end now; and a PMKID with AKM 21
-pub status-53-another-akm : received false older (asking usual (cached 0xa8 6 9000) true ownKey firstFrame) ≡ refused 53 none
-unfolding received
-status-53-another-akm = refl
-
-pub status-53-end : received false older (asking usual (cached 0xa8 8 5000) true ownKey firstFrame) ≡ refused 53 none
-unfolding received
-status-53-end = refl
-
-pub status-53-akm-21 : received false older (hears (with-rsne (rsne 7 4 7 21 0xc0 (id 0xa8)))) ≡ refused 53 none
-unfolding received
-status-53-akm-21 = refl
-
--- 11.
-pub status-30 : received true none (hears firstFrame) ≡ refused 30 none
-unfolding received
-status-30 = refl
-
--- a full table comes last, and our own key after it
-pub status-53-before-30 : received true none (asking usual [] true ownKey firstFrame) ≡ refused 53 none
-unfolding received
-status-53-before-30 = refl
-
-pub status-30-before-own-key : received true none (asking usual (cached 0xa8 8 9000) true (replicate 32 2) firstFrame) ≡ refused 30 none
-unfolding received
-status-30-before-own-key = refl
-
-pub own-key-of-32 : received false older (asking usual (cached 0xa8 8 9000) true (replicate 32 2) firstFrame) ≡ silent 6 older
-unfolding received
-own-key-of-32 = refl
-
--- 0, with the second frame: its RSNE, and the lifetime in its Timeout
-abbrev accepted : List ℕ → ℕ → ℕ → Option Peer → Shown
-accepted r low high after = record {
+-- 0, with the AKM, the PMKIDs and the lifetime of the second frame
+abbrev accepted : ℕ → List ℕ → List ℕ → Option Peer → Shown
+accepted akm pmkids lifetime after = record {
   number = 0;
   status = none;
-  reply = header 7 2 0 ++ r ++ (0x38 ∷ 0x05 ∷ 0x02 ∷ low ∷ high ∷ 0x00 ∷ 0x00 ∷ []) ++ parameters 0 19 ownKey ++ (0x8c ∷ 0x10 ∷ id 0);
+  reply = header 7 2 0 ++ rsne 7 7 4 akm 0xc0 pmkids ++ lifetime ++ parameters 0 19 ownKey ++ (140 ∷ 16 ∷ id 0);
   peer = after;
 }
 
--- the deadline is 5000 + 1000, and the lifetime the frame's 600 s
-pub accepted-new : received false none (hears firstFrame) ≡ accepted (rsne 7 4 7 8 0xc0 (id 0xa8)) 0x58 0x02 waiting
-unfolding received
-accepted-new = refl
+-- Before the frame is looked at ---------------------------------------------------------------------------------------------------------
 
--- a waiting record is replaced
-pub accepted-again : received false older (hears firstFrame) ≡ accepted (rsne 7 4 7 8 0xc0 (id 0xa8)) 0x58 0x02 waiting
-unfolding received
+-- each call puts right what the one before it was answered for, and is wrong in all that comes later
+pub checks-in-order :
+    map
+    number
+    (checked 3999 147 (settings true 15 0 1000) groupAddress (0 ∷ []) (replicate 5 0)
+    ∷ checked 4000 147 (settings true 15 0 1000) groupAddress (0 ∷ []) (replicate 5 0)
+    ∷ checked 4000 148 (settings true 15 0 1000) groupAddress (0 ∷ []) (replicate 5 0)
+    ∷ checked 4000 148 usual groupAddress (0 ∷ []) (replicate 5 0)
+    ∷ checked 4000 148 usual station (0 ∷ []) (replicate 5 0)
+    ∷ checked 4000 148 usual station [] (replicate 5 0)
+    ∷ checked 4000 148 usual station [] (header 6 2 0)
+    ∷ checked 4000 148 usual station [] (header 7 2 0)
+    ∷ [])
+    ≡ 1 ∷ 2 ∷ 3 ∷ 4 ∷ 5 ∷ 7 ∷ 8 ∷ 9 ∷ []
+unfolding gets
+checks-in-order = refl
+
+-- the latest reading again and the highest one are taken
+pub clock-edges :
+    map (λ (reading : ℕ). number (checked reading 148 usual station [] (header 7 2 0))) (3999 ∷ 4000 ∷ 2 ^ 48 ∷ (2 ^ 48 + 1) ∷ []) ≡ 1 ∷ 9 ∷ 9 ∷ 1 ∷ []
+unfolding gets
+clock-edges = refl
+
+abbrev within : ℕ → ℕ → Call
+within lifetime deadline = tried (settings true 15 lifetime deadline) [] (header 7 2 0)
+
+pub settings-edges :
+    map number (within 0 1 ∷ within 1 0 ∷ within 1 1 ∷ within 86400 10000 ∷ within 86401 10000 ∷ within 86400 10001 ∷ [])
+    ≡ 3 ∷ 3 ∷ 9 ∷ 9 ∷ 3 ∷ 3 ∷ []
+unfolding gets
+settings-edges = refl
+
+-- a waiting record goes; an installed one stays
+pub algorithm-6 :
+    received false waiting (hears (header 6 1 0)) ∷ received false installed (hears (header 6 1 0)) ∷ [] ≡ silent 8 none ∷ silent 8 installed ∷ []
+unfolding gets
+algorithm-6 = refl
+
+-- The first frame -----------------------------------------------------------------------------------------------------------------------
+
+pub first-installed : received false installed (hears usualBody) ≡ silent 10 installed
+unfolding gets
+first-installed = refl
+
+-- the eleven steps, in a full table: each call puts right what the one before it was refused for, and is wrong in all that comes later
+pub steps-in-order :
+    map
+    (λ (c : Call). statusBeside (gets true none c .answer))
+    (strict false [] (header 7 1 0)
+    ∷ strict false [] (firstBody 1 4 6 8 9 0x40 20 4 (id 0xa8))
+    ∷ strict false [] (firstBody 0 4 6 8 9 0x40 20 4 (id 0xa8))
+    ∷ strict false [] (firstBody 0 7 6 8 9 0x40 20 4 (id 0xa8))
+    ∷ strict false [] (firstBody 0 7 7 8 9 0x40 20 4 (id 0xa8))
+    ∷ strict false [] (firstBody 0 7 7 4 9 0x40 20 4 (id 0xa8))
+    ∷ strict false [] (firstBody 0 7 7 4 8 0x40 20 4 (id 0xa8))
+    ∷ strict false [] (firstBody 0 7 7 4 8 0xc0 20 4 (id 0xa8))
+    ∷ strict false [] (firstBody 0 7 7 4 8 0xc0 19 4 (id 0xa8))
+    ∷ strict false [] (firstBody 0 7 7 4 8 0xc0 19 3 (id 0xa8))
+    ∷ strict true [] (firstBody 0 7 7 4 8 0xc0 19 3 (id 0xa8))
+    ∷ strict true (cached 8) (firstBody 0 7 7 4 8 0xc0 19 3 (id 0xa8))
+    ∷ [])
+    ≡ map some (40 ∷ 1 ∷ 41 ∷ 41 ∷ 42 ∷ 43 ∷ 45 ∷ 77 ∷ 40 ∷ 1 ∷ 53 ∷ 30 ∷ [])
+unfolding gets
+steps-in-order = refl
+
+-- with room in the table only our own key is wrong, which leaves the record
+pub own-key-of-32 : received false older (strict true (cached 8) usualBody) ≡ silent 6 older
+unfolding gets
+own-key-of-32 = refl
+
+-- MFPC clear, MFPR clear, No Pairwise set, and none of these
+pub capabilities :
+    map (λ (c : ℕ). status (hears (firstBody 0 7 7 4 8 c 19 3 (id 0xa8)))) (0x40 ∷ 0x80 ∷ 0xc2 ∷ 0xc0 ∷ []) ≡ some 45 ∷ some 45 ∷ some 45 ∷ none ∷ []
+unfolding gets
+capabilities = refl
+
+-- where it is not allowed; with a PMKID, though that is cached; and allowed, with none
+pub akm-21 :
+    status (tried (settings false 15 3600 1000) [] (firstBody 0 7 7 4 21 0xc0 19 3 []))
+    ∷ status (tried usual (cached 21) (firstBody 0 7 7 4 21 0xc0 19 3 (id 0xa8)))
+    ∷ status (tried usual [] (firstBody 0 7 7 4 21 0xc0 19 3 []))
+    ∷ []
+    ≡ some 43 ∷ some 53 ∷ none ∷ []
+unfolding gets
+akm-21 = refl
+
+-- a waiting record goes, except with status 30
+pub refused-waiting : received false older (tried usual [] usualBody) ≡ refused 53 none
+unfolding gets
+refused-waiting = refl
+
+pub refused-full : received true older (hears usualBody) ≡ refused 30 older
+unfolding gets
+refused-full = refl
+
+-- The second of two PMKIDs is cached. The lifetime is the frame's 600 s, the deadline 5,000 + 1,000 TU, and the older record is replaced.
+pub accepted-again :
+    received false older (hears (firstBody 0 7 7 4 8 0xc0 19 3 (id 0xa5 ++ id 0xa8) ++ timeout 0x58 0x02)) ≡ accepted 8 (id 0xa8) (timeout 0x58 0x02) waiting
+unfolding gets
 accepted-again = refl
 
 -- the settings' 60 s are less than the frame's
-pub accepted-shorter : received false none (asking (settings true 15 60 2000) (cached 0xa8 8 9000) true ownKey firstFrame) ≡ accepted (rsne 7 4 7 8 0xc0 (id 0xa8)) 60 0 (some (peer (Waiting (tu 7000)) 4 8 60))
-unfolding received
+pub accepted-shorter :
+    received false none (tried (settings true 15 60 2000) (cached 8) (usualBody ++ timeout 0x58 0x02))
+    ≡ accepted 8 (id 0xa8) (timeout 60 0) (peer (Waiting (tu 7000)) 8 true (id 0xa8) 60)
+unfolding gets
 accepted-shorter = refl
 
--- no Timeout: the settings' 3,600 s
-pub accepted-unasked : received false none (hears (header 7 1 0 ++ rsne 7 4 7 8 0xc0 (id 0xa8) ++ parameters 0 19 theirKey)) ≡ accepted (rsne 7 4 7 8 0xc0 (id 0xa8)) 0x10 0x0e (some (peer (Waiting (tu 6000)) 4 8 3600))
-unfolding received
-accepted-unasked = refl
+-- no PMKID, and no Timeout: the settings' 3,600 s
+pub accepted-without :
+    received false none (hears (firstBody 0 7 7 4 21 0xc0 19 3 [])) ≡ accepted 21 [] (timeout 0x10 0x0e) (peer (Waiting (tu 6000)) 21 false (id 0) 3600)
+unfolding gets
+accepted-without = refl
 
--- of two PMKIDs the second is cached
-pub accepted-second-pmkid : received false none (hears (with-rsne (rsne 7 4 7 8 0xc0 (id 0xa5 ++ id 0xa8)))) ≡ accepted (rsne 7 4 7 8 0xc0 (id 0xa8)) 0x58 0x02 waiting
-unfolding received
-accepted-second-pmkid = refl
+-- The third frame -----------------------------------------------------------------------------------------------------------------------
 
--- the status field is ignored, and so is MIC
-pub accepted-with-status : received false none (hears (header 7 1 5 ++ rsne 7 4 7 8 0xc0 (id 0xa8) ++ parameters 0 19 theirKey ++ timeout ++ (0x8c ∷ 0x00 ∷ []))) ≡ accepted (rsne 7 4 7 8 0xc0 (id 0xa8)) 0x58 0x02 waiting
-unfolding received
-accepted-with-status = refl
+-- no record, and an installed one, whatever the status
+pub third-no-exchange :
+    received false none (hears (thirdBody 1 0x3c)) ∷ received false installed (hears (thirdBody 1 0x3c)) ∷ [] ≡ silent 13 none ∷ silent 13 installed ∷ []
+unfolding gets
+third-no-exchange = refl
 
-abbrev without-pmkid : Option Peer
-without-pmkid = some (record {
-  address = station;
-  pmkid = id 0;
-  cached = false;
-  phase = Waiting (tu 6000);
-  cipher = 9;
-  akm = 21;
-  lifetime = record { 0 = 600 };
-})
-
-pub accepted-no-pmk : received false none (asking usual [] true ownKey (with-rsne (rsne 7 9 7 21 0xc0 []))) ≡ accepted (rsne 7 9 7 21 0xc0 []) 0x58 0x02 without-pmkid
-unfolding received
-accepted-no-pmk = refl
-
--- The third frame ----------------------------------------------------------------------------------------------------------------------
-
-pub third-no-record : received false none (hears (thirdWith 0)) ≡ silent 13 none
-unfolding received
-third-no-record = refl
-
-pub third-status-1 : received false waiting (hears (thirdWith 1)) ≡ silent 12 none
-unfolding received
+pub third-status-1 : received false waiting (hears (thirdBody 1 0x3c)) ≡ silent 12 none
+unfolding gets
 third-status-1 = refl
 
-pub third-twice-a-mic : received false waiting (hears (thirdWith 0 ++ (0x8c ∷ 0x10 ∷ mic))) ≡ silent 14 none
-unfolding received
-third-twice-a-mic = refl
-
-pub third-another-mic : received false waiting (hears (header 7 3 0 ++ (0xff ∷ 0x03 ∷ 0x64 ∷ 0x00 ∷ 0x00 ∷ []) ++ (0x8c ∷ 0x10 ∷ id 0x81))) ≡ silent 14 none
-unfolding received
+pub third-another-mic : received false waiting (hears (thirdBody 0 0x3d)) ≡ silent 14 none
+unfolding gets
 third-another-mic = refl
 
--- P10: at 5000 the end is 5000 + 585937; the same frame again leaves it
-pub third-accepted : received false waiting (hears (thirdWith 0)) ≡ silent 15 installed
-unfolding received
+pub third-accepted : received false waiting (hears (thirdBody 0 0x3c)) ≡ silent 15 installed
+unfolding gets
 third-accepted = refl
 
-pub third-again : received false installed (hears (thirdWith 0)) ≡ silent 13 installed
-unfolding received
-third-again = refl
+-- Removal and look-up -------------------------------------------------------------------------------------------------------------------
 
-pub third-installed-status-1 : received false installed (hears (thirdWith 1)) ≡ silent 13 installed
-unfolding received
-third-installed-status-1 = refl
+-- before the latest reading; of a group address; without a record, and with one
+abbrev asked : (Tu → Tu → List ℕ → Option Peer → ℕ) → List ℕ
+asked f =
+    f (tu 4000) (tu 3999) station waiting
+    ∷ f (tu 4000) (tu 4000) groupAddress waiting
+    ∷ f (tu 4000) (tu 4000) station none
+    ∷ f (tu 4000) (tu 4000) station waiting
+    ∷ []
 
--- Removal and look-up ------------------------------------------------------------------------------------------------------------------
+pub removals : asked removeOf ≡ 1 ∷ 4 ∷ 17 ∷ 16 ∷ []
+removals = refl
 
-pub remove-clock-back : removeOf (tu 4000) (tu 3999) station waiting ≡ 1
-remove-clock-back = refl
+pub look-ups : asked lookUpOf ≡ 1 ∷ 4 ∷ 17 ∷ 18 ∷ []
+look-ups = refl
 
-pub remove-group : removeOf (tu 4000) (tu 4000) (1 ∷ replicate 5 0) waiting ≡ 4
-remove-group = refl
+-- One peer alone ------------------------------------------------------------------------------------------------------------------------
 
-pub remove-nothing : removeOf (tu 4000) (tu 4000) station none ≡ 17
-remove-nothing = refl
+-- its first frame begins an exchange, since nobody else takes a place
+pub alone-begins : aloneAfter (receive (hears usualBody) ∷ []) .peer ≡ peer (Waiting (tu 6000)) 8 true (id 0xa8) 3600
+unfolding gets
+alone-begins = refl
 
-pub removed : removeOf (tu 4000) (tu 4000) station installed ≡ 16
-removed = refl
+-- a refusal overwrites the front of the reply buffer
+pub alone-refused : aloneGets (receive (hears (header 7 1 0)) ∷ []) ≡ answered (Answer.Refused Refusal.IllFormed) 6 (header 7 2 40 ++ replicate 142 0) ∷ []
+unfolding gets
+alone-refused = refl
 
-pub look-clock-over : lookUpOf (tu 4000) (tu (2 ^ 48 + 1)) station waiting ≡ 1
-look-clock-over = refl
+pub alone-removed : aloneAfter (receive (hears usualBody) ∷ remove station (tu 5000) ∷ []) .peer ≡ none
+unfolding gets
+alone-removed = refl
 
-pub look-group : lookUpOf (tu 4000) (tu 4000) (1 ∷ replicate 5 0) waiting ≡ 4
-look-group = refl
-
-pub look-nothing : lookUpOf (tu 4000) (tu 4000) station none ≡ 17
-look-nothing = refl
-
-pub looked-up : lookUpOf (tu 4000) (tu 4000) station waiting ≡ 18
-looked-up = refl
+-- a look-up ahead of time sets no latest reading
+pub alone-looks-ahead : aloneGets (lookUp station (tu 60) ∷ remove station (tu 10) ∷ []) ≡ found 17 none ∷ removed 17 ∷ []
+alone-looks-ahead = refl

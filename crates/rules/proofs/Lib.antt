@@ -1,3 +1,5 @@
+pub mod Cases
 pub mod Lifetimes
 pub mod Pmkids
-pub mod Cases
+pub mod Checks
+pub mod Inversion

@@ -1,2 +1,3 @@
 pub mod OnePeer
 pub mod Told
+pub mod Alone

@@ -1,8 +1,11 @@
 // The rules for one peer: what a receive brings and gets, and the steps that choose. No table stands in them.
 pub mod steps;
 
-ghost use Rattle.rules.specs.Told.{Only};
-use peers::Peer;
+ghost use mathlib.Core.Path.{_≡_};
+ghost use lib.ListN.{replicate};
+ghost use Rattle.rules.specs.OnePeer.{termsOf};
+use peers::Agreed;
+use peers::Phase;
 use units::Seconds;
 use units::Tu;
 
@@ -14,15 +17,72 @@ pub struct Settings {
     pub deadline: Tu,
 }
 
+// What the host lends in numbers: whether the chip took the peer's public key for a valid point.
+pub struct Lent {
+    pub point: bool,
+}
+
 // What a receive brings, beside its strings of octets.
 pub struct Brought {
     pub settings: Settings,
     pub reading: Tu,
     pub address: [u8; 6],
-    pub point: bool,
+    pub lent: Lent,
 }
 
-// What a receive answers; `Refused` carries the status.
+// Why a first frame is refused: the steps 1 to 11, in order.
+pub enum Refusal {
+    IllFormed,
+    Wrapped,
+    GroupCipher,
+    PairwiseCipher,
+    Akm,
+    Unprotected,
+    Group,
+    KeyForm,
+    Point,
+    Pmkid,
+    TableFull,
+}
+
+pub fn status_of(why: Refusal) -> u16
+    ensures { λ r. ⌜ r ≡ termsOf why .status ⌝ }
+{
+    match why {
+        Refusal::IllFormed => 40,
+        Refusal::Wrapped => 1,
+        Refusal::GroupCipher => 41,
+        Refusal::PairwiseCipher => 42,
+        Refusal::Akm => 43,
+        Refusal::Unprotected => 45,
+        Refusal::Group => 77,
+        Refusal::KeyForm => 40,
+        Refusal::Point => 1,
+        Refusal::Pmkid => 53,
+        Refusal::TableFull => 30,
+    }
+}
+
+// Whether a refusal leaves a waiting record.
+pub fn spares(why: Refusal) -> bool
+    ensures { λ r. ⌜ r ≡ termsOf why .spares ⌝ }
+{
+    match why {
+        Refusal::IllFormed => false,
+        Refusal::Wrapped => false,
+        Refusal::GroupCipher => false,
+        Refusal::PairwiseCipher => false,
+        Refusal::Akm => false,
+        Refusal::Unprotected => false,
+        Refusal::Group => false,
+        Refusal::KeyForm => false,
+        Refusal::Point => false,
+        Refusal::Pmkid => false,
+        Refusal::TableFull => true,
+    }
+}
+
+// What a receive answers.
 pub enum Answer {
     Accepted,
     ClockOut,
@@ -35,36 +95,36 @@ pub enum Answer {
     Algorithm,
     Transaction,
     PeerInstalled,
-    Refused(u16),
+    Refused(Refusal),
     StatusNotZero,
     NoExchange,
     ThirdRefused,
     Installed,
 }
 
-// What a frame leaves of this peer's record.
+// What a frame leaves of this peer's record: the same, none, or another.
 pub enum Leaves {
     Same,
-    WaitingGoes,
-    Becomes,
+    Gone,
+    Becomes(Agreed, Phase),
 }
 
-// What a frame gets: the answer, the octets of the reply, and what becomes of the record: `peer`, where it `Becomes` one.
+// What a frame gets: the answer, the octets of the reply, and what it leaves of the record. `pmkid` is that of the record that it `Becomes`, else zeros.
 pub struct Verdict {
     pub answer: Answer,
     pub length: usize,
     pub leaves: Leaves,
-    pub peer: Peer,
+    pub pmkid: [u8; 16],
 }
 
 // A verdict that writes nothing and makes no record.
-pub fn only(answer: Answer, leaves: Leaves) -> Verdict
-    ensures { λ r. ⌜ Only answer leaves r ⌝ }
+pub fn silent(answer: Answer, leaves: Leaves) -> Verdict
+    ensures { λ r. ⌜ r ≡ record { answer = answer; length = 0; leaves = leaves; pmkid = replicate 16 0 } ⌝ }
 {
     Verdict {
         answer: answer,
         length: 0,
         leaves: leaves,
-        peer: peers::vacant(),
+        pmkid: [0; 16],
     }
 }

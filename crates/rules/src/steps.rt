@@ -5,7 +5,8 @@ ghost use Prim.Native.Nat.{_+_, _*_, _≤_};
 ghost use lib.ListN.{length, take, drop};
 ghost use Rattle.cache.specs.File.{isWellFormed};
 ghost use Rattle.rules.specs.OnePeer.{isSuite, step4, step5, isProtected, suiteSteps, keySteps, step10, lifetimeOf};
-ghost use Rattle.rules.specs.Told.{cipherTold, akmTold, suitesTold, keyTold, pmkidTold};
+ghost use Rattle.rules.specs.Told.{cipherTold, akmTold, suitesTold, keyTold, pmkidStepOf};
+use crate::Refusal;
 use crate::Settings;
 use cache::Choice;
 use frames::contents::Lifetime;
@@ -92,7 +93,7 @@ fn is_protected(capabilities: u16) -> bool
 
 pub enum SuiteSteps {
     Passed { cipher: u8, akm: Akm },
-    Refused(u16),
+    Refused(Refusal),
 }
 
 // Steps 2 to 6.
@@ -104,21 +105,21 @@ pub fn suite_steps(settings: Settings, format: u8, rsne: Rsne) -> SuiteSteps
     let pairwise = rsne.pairwise;
     let akms = rsne.akm;
     if format != 0 {
-        return SuiteSteps::Refused(1);
+        return SuiteSteps::Refused(Refusal::Wrapped);
     }
     if !is_suite(group, GROUP_CIPHER) {
-        return SuiteSteps::Refused(41);
+        return SuiteSteps::Refused(Refusal::GroupCipher);
     }
     if !is_suite(management, GROUP_CIPHER) {
-        return SuiteSteps::Refused(41);
+        return SuiteSteps::Refused(Refusal::GroupCipher);
     }
     let chosen = choose_cipher(settings, pairwise);
     let CipherStep::Chosen(cipher) = chosen else {
-        return SuiteSteps::Refused(42);
+        return SuiteSteps::Refused(Refusal::PairwiseCipher);
     };
     let entry = choose_akm(settings, akms);
     let AkmEntry::In(akm) = entry else {
-        return SuiteSteps::Refused(43);
+        return SuiteSteps::Refused(Refusal::Akm);
     };
     if is_protected(rsne.capabilities) {
         return SuiteSteps::Passed {
@@ -126,12 +127,12 @@ pub fn suite_steps(settings: Settings, format: u8, rsne: Rsne) -> SuiteSteps
             akm: akm,
         };
     }
-    SuiteSteps::Refused(45)
+    SuiteSteps::Refused(Refusal::Unprotected)
 }
 
 pub enum KeySteps {
     Passed(Group),
-    Refused(u16),
+    Refused(Refusal),
 }
 
 // Steps 7 to 9.
@@ -140,13 +141,13 @@ pub fn key_steps(number: u16, key: &[u8], point: bool) -> KeySteps
 {
     let entry = suites::group_of(number);
     let GroupEntry::In(group) = entry else {
-        return KeySteps::Refused(77);
+        return KeySteps::Refused(Refusal::Group);
     };
     if !suites::is_key_of(group, key) {
-        return KeySteps::Refused(40);
+        return KeySteps::Refused(Refusal::KeyForm);
     }
     if !point {
-        return KeySteps::Refused(1);
+        return KeySteps::Refused(Refusal::Point);
     }
     KeySteps::Passed(group)
 }
@@ -163,7 +164,7 @@ fn pmkid_at(pmkids: &[u8], k: usize) -> [u8; 16]
     pmkid
 }
 
-// What step 10 shows: whether it passed, and the PMKID that was chosen, or zeros.
+// What step 10 shows: whether it passed, and the PMKID that was chosen, or none, and then zeros.
 pub struct PmkidStep {
     pub passed: bool,
     pub cached: bool,
@@ -172,7 +173,7 @@ pub struct PmkidStep {
 
 pub fn pmkid_step(akm: Akm, file: &[u8], pmkids: &[u8], reading: Tu) -> PmkidStep
     requires { ⌜ isWellFormed (now file) ≡ true ⌝ }
-    ensures { λ r. ⌜ pmkidTold r ≡ step10 akm (now (file .entry)) reading (now (pmkids .entry)) ⌝ }
+    ensures { λ r. ⌜ r ≡ pmkidStepOf (step10 akm (now (file .entry)) reading (now (pmkids .entry))) ⌝ }
 {
     if akm.pmk {
         let choice = cache::choose(file, pmkids, akm.kind, reading);

@@ -43,12 +43,9 @@ state-of-648 = refl
 abbrev installed : Peer
 installed = record {
   address = 2 ∷ 0 ∷ 0 ∷ 0 ∷ 0 ∷ 7 ∷ [];
-  cached = true;
+  agreed = record { cipher = 4; akm = 8; cached = true; lifetime = record { 0 = 3600 } };
   pmkid = replicate 16 0xaa;
   phase = Installed (record { 0 = 0x123456 });
-  cipher = 4;
-  akm = 8;
-  lifetime = record { 0 = 3600 };
 }
 
 pub a-record-told : octetsOf installed

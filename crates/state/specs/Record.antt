@@ -64,20 +64,17 @@ phaseNumber (Installed end) = 1
 unfoldable pub peerOf : List ℕ → Peer
 peerOf r = record {
   address = take 6 (drop addressAt r);
-  cached = isYes (getD r hasPmkidAt 0);
+  agreed = record { cipher = getD r cipherAt 0; akm = getD r akmAt 0; cached = isYes (getD r hasPmkidAt 0); lifetime = record { 0 = le 4 r lifetimeAt } };
   pmkid = take 16 (drop pmkidAt r);
   phase = phaseOf (getD r phaseAt 0) (le 8 r untilAt);
-  cipher = getD r cipherAt 0;
-  akm = getD r akmAt 0;
-  lifetime = record { 0 = le 4 r lifetimeAt };
 }
 
 -- The octets that tell a record: those in front of the numbers, the two unused ones 0, and then the numbers.
 unfoldable pub headOf : Peer → List ℕ
-headOf p = p .address ++ (yesNumber (p .cached) ∷ []) ++ p .pmkid ++ (phaseNumber (p .phase) ∷ p .cipher ∷ p .akm ∷ 0 ∷ 0 ∷ [])
+headOf p = p .address ++ (yesNumber (p .agreed .cached) ∷ []) ++ p .pmkid ++ (phaseNumber (p .phase) ∷ p .agreed .cipher ∷ p .agreed .akm ∷ 0 ∷ 0 ∷ [])
 
 unfoldable pub octetsOf : Peer → List ℕ
-octetsOf p = headOf p ++ octets 4 (p .lifetime .0) ++ octets 8 (until (p .phase) .0)
+octetsOf p = headOf p ++ octets 4 (p .agreed .lifetime .0) ++ octets 8 (until (p .phase) .0)
 
 -- A number is told at the front in w octets, and is one that they can tell.
 pub record TellsNumber (w n : ℕ) (before after : List ℕ) : Type 0 where

@@ -1,16 +1,14 @@
 -- The octets that a host keeps, sixteen records and then the latest reading: which table any octets are.
-use Prim.Native.Nat.{ℕ, _+_, _*_, _<_}
+use Prim.Native.Nat.{ℕ, _+_, _*_}
 use mathlib.Core.Path.{_≡_}
 use mathlib.Core.List.{List, map}
 use lib.ListN.{getD, set}
 use Rattle.octets.specs.Numbers.{le}
 use Rattle.octets.specs.Pieces.{pieces}
 use Rattle.units.specs.declared.Tu.{Tu}
-use Rattle.peers.specs.declared.Found.{Found}
-use Rattle.peers.specs.declared.Found.the-variants.{At, Free, Full}
 use Rattle.peers.specs.declared.Peer.{Peer}
 use Rattle.peers.specs.declared.Table.{Table}
-use Rattle.peers.specs.View.{vacantPeer, noPeer}
+use Rattle.peers.specs.View.{noPeer}
 use Rattle.state.specs.Record.{recordSize, peerOf}
 
 -- where the latest reading begins
@@ -28,17 +26,6 @@ tableOf s = record { peers = map peerOf (pieces recordSize 16 s); latest = recor
 -- the i-th record of it
 abbrev pub place : List ℕ → ℕ → Peer
 place s i = getD (tableOf s .peers) i noPeer
-
--- a place that a search found is one of sixteen, and its record is there; where it found none, the vacant record stands for it
-abbrev pub IsPlace : Found → Type 0
-IsPlace (At i) = i < 16
-IsPlace Free = Unit
-IsPlace Full = Unit
-
-abbrev pub foundPeer : List ℕ → Found → Peer
-foundPeer s (At i) = place s i
-foundPeer s Free = vacantPeer
-foundPeer s Full = vacantPeer
 
 -- a table with another i-th record, and with another latest reading
 abbrev pub stored : Table → ℕ → Peer → Table

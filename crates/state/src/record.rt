@@ -3,6 +3,7 @@ ghost use mathlib.Core.Path.{_≡_};
 ghost use Prim.Native.Nat.{_≤_};
 ghost use lib.ListN.{length};
 ghost use Rattle.state.specs.Record.{lifetimeAt, recordSize, isYes, yesNumber, phaseOf, phaseNumber, peerOf, TellsNumber, TellsHead, Tells};
+use peers::Agreed;
 use peers::Peer;
 use peers::Phase;
 use units::Seconds;
@@ -74,14 +75,17 @@ pub fn read(r: &[u8]) -> Peer
     let mut pmkid = [0; 16];
     octets::copy_in(&mut address, &r[ADDRESS_AT..HAS_PMKID_AT]);
     octets::copy_in(&mut pmkid, &r[PMKID_AT..PHASE_AT]);
-    Peer {
-        address: address,
-        pmkid: pmkid,
-        cached: is_yes(r[HAS_PMKID_AT]),
-        phase: phase_of(r[PHASE_AT], octets::le8(r, UNTIL_AT)),
+    let agreed = Agreed {
         cipher: r[CIPHER_AT],
         akm: r[AKM_AT],
+        cached: is_yes(r[HAS_PMKID_AT]),
         lifetime: Seconds(octets::le4(r, LIFETIME_AT)),
+    };
+    Peer {
+        address: address,
+        agreed: agreed,
+        pmkid: pmkid,
+        phase: phase_of(r[PHASE_AT], octets::le8(r, UNTIL_AT)),
     }
 }
 
@@ -104,13 +108,14 @@ fn put_head(d: &mut [u8], p: Peer)
     requires { ⌜ lifetimeAt ≤ length (now d) ⌝ }
     ensures { λ _. ⌜ TellsHead p (now (d .entry)) (now (d .exit)) ⌝ }
 {
+    let agreed = p.agreed;
     let phase = p.phase;
     octets::copy_in(&mut d[ADDRESS_AT..], &p.address);
-    octets::copy_in(&mut d[HAS_PMKID_AT..], &[yes_number(p.cached)]);
+    octets::copy_in(&mut d[HAS_PMKID_AT..], &[yes_number(agreed.cached)]);
     octets::copy_in(&mut d[PMKID_AT..], &p.pmkid);
     octets::copy_in(
         &mut d[PHASE_AT..],
-        &[phase_number(phase), p.cipher, p.akm, 0, 0],
+        &[phase_number(phase), agreed.cipher, agreed.akm, 0, 0],
     );
 }
 
@@ -119,8 +124,9 @@ pub fn put(d: &mut [u8], p: Peer)
     requires { ⌜ recordSize ≤ length (now d) ⌝ }
     ensures { λ _. ⌜ Tells p (now (d .entry)) (now (d .exit)) ⌝ }
 {
+    let agreed = p.agreed;
     let phase = p.phase;
-    let lifetime = p.lifetime;
+    let lifetime = agreed.lifetime;
     let until = peers::until(phase);
     put_head(d, p);
     put_seconds(&mut d[LIFETIME_AT..], lifetime);

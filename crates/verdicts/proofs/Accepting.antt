@@ -1,44 +1,45 @@
 -- What was decided, as the outcome of a first frame.
 use mathlib.Core.Path.{_≡_, sym, ap, subst, _∙_}
-use mathlib.Core.Bool.{Bool, true, false}
-use mathlib.Core.List.{List, []}
-use mathlib.Core.Option.{Option}
+use mathlib.Core.Bool.{Bool, true}
+use mathlib.Core.List.{List}
 use Prim.Native.Nat.{ℕ, _≤_}
-use native.Mathlib.Omega.{arith}
-use borrow.Author.Tests.{ne-eqb}
-use lib.Dec.{eqb}
-use lib.ListN.{length, replicate}
-use Rattle.peers.specs.declared.Peer.{Peer}
+use lib.ListN.{length}
+use Rattle.suites.specs.Tables.{longestKey, longestMic, isKeyOf}
+use Rattle.suites.proofs.Laws.{akm-found, group-found}
+use Rattle.layouts.specs.Rsne.{pmkidSize}
 use Rattle.rules.specs.declared.Brought.{Brought}
-use Rattle.rules.specs.declared.Verdict.{Verdict}
+use Rattle.rules.specs.declared.Refusal.{Refusal}
+use Rattle.verdicts.specs.declared.first.Accepted.{Accepted}
 use Rattle.verdicts.specs.declared.first.Decided.{Decided}
 use Rattle.verdicts.specs.declared.first.Decision.{Decision}
-use Rattle.rules.specs.OnePeer.{Outcome, steps, refusal}
-use Rattle.rules.specs.Told.{callOf, firstFor, Gets}
-use Rattle.verdicts.specs.Decided.{decidedBy, decidedOf, Writable, acceptedOf}
-use Rattle.verdicts.proofs.Passing.{fitting}
+use Rattle.rules.specs.OnePeer.{pass, Passed, listed, smallestBuffer, steps, refusal, acceptance, firstOutcome}
+use Rattle.rules.proofs.Inversion.{Passes, passes}
+use Rattle.verdicts.specs.Decided.{passedOf, decidedBy, decidedOf, Writable}
 
-pub gets-same : {o o' : Outcome} {own : Option Peer} {before after : List ℕ} {r : Verdict} → o ≡ o' → Gets o own before after r → Gets o' own before after r
-gets-same {own = own} {before = before} {after = after} {r = r} e g = subst (λ (o : Outcome). Gets o own before after r) e g
+-- what a second frame needs of the tables
+pub record Fitting (p : Passed) : Type 0 where
+  pub mic : p .mic ≤ longestMic
+  pub keys : (key : List ℕ) → isKeyOf (p .group) key ≡ true → length key ≤ longestKey
 
-module _ (brought : Brought) (d : Decided) (file key body : List ℕ) (algorithm : ℕ) (full : Bool)
-    (decided : decidedOf d ≡ steps (callOf brought file [] [] body 0) full) where
-  pub refused-same : (status : ℕ) → d .decision ≡ Decision.Refused status → (own : Option Peer)
-      → refusal algorithm status own ≡ firstFor brought file key body algorithm full own
-  refused-same status h own = rw (sym decided ∙ ap (decidedBy d) h)
+pub fitting : {brought : Brought} {body : List ℕ} {full : Bool} {p : Passed} → Passes brought body full p → Fitting p
+fitting v = subst Fitting (sym (v .is)) (record {
+  mic = akm-found (v .of .listed) .mic .most;
+  keys = λ key k. group-found (v .grouped) .keys key k .most;
+})
 
-  module _ (passed : d .decision ≡ Decision.Passed) where
-    pub writable : (n m : ℕ) → n ≤ 16 → 148 ≤ m → Writable d n key m
-    writable n m h k =
-        let f = fitting (callOf brought file [] [] body 0) full (sym decided ∙ ap (decidedBy d) passed) in
-        record { one = h; mic = f .mic; keys = f .keys key; room = k }
+module _ (brought : Brought) (d : Decided) (file key body : List ℕ) (algorithm : ℕ) (full waiting : Bool)
+    (decided : decidedOf d ≡ steps brought file body full) where
+  pub refused-same : {why : Refusal} → d .decision ≡ Decision.Refused why → refusal algorithm waiting why ≡ firstOutcome brought key algorithm waiting (steps brought file body full)
+  refused-same h = rw (sym decided ∙ ap (decidedBy (d .pmkid)) h)
 
-    pub cached-same : d .cached ≡ true → length (d .pmkid) ≡ 16 → (own : Option Peer)
-        → acceptedOf brought d (d .pmkid) (d .pmkid) algorithm key ≡ firstFor brought file key body algorithm full own
-    cached-same h n own =
-        let z : eqb (length (d .pmkid)) 0 ≡ false = ne-eqb (length (d .pmkid)) 0 (λ e. omega arith) in
-        rw (sym decided ∙ ap (decidedBy d) passed, h, z)
+  module _ {a : Accepted} (passed : d .decision ≡ Decision.Passed a) where
+    passing : steps brought file body full ≡ pass (passedOf a (d .pmkid))
+    passing = sym decided ∙ ap (decidedBy (d .pmkid)) passed
 
-    pub uncached-same : d .cached ≡ false → (own : Option Peer)
-        → acceptedOf brought d (replicate 16 0) [] algorithm key ≡ firstFor brought file key body algorithm full own
-    uncached-same h own = rw (sym decided ∙ ap (decidedBy d) passed, h)
+    pub accepted-same : acceptance brought key algorithm (passedOf a (d .pmkid)) ≡ firstOutcome brought key algorithm waiting (steps brought file body full)
+    accepted-same = rw passing
+
+    pub writable : (pmkids : List ℕ) (n : ℕ) → pmkids ≡ listed (passedOf a (d .pmkid)) → length pmkids ≤ pmkidSize → smallestBuffer ≤ n → Writable (passedOf a (d .pmkid)) pmkids key n
+    writable pmkids n e h k =
+        let f = fitting (passes brought file body full passing) in
+        record { one = e; short = h; mic = f .mic; keys = f .keys key; room = k }

@@ -1,4 +1,3 @@
 pub mod Steps
-pub mod Passing
 pub mod Accepting
 pub mod Verdicts

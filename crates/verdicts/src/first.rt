@@ -1,75 +1,55 @@
 // The first frame: its eleven steps, and its acceptance.
 ghost use mathlib.Core.Path.{_≡_};
 ghost use mathlib.Core.Bool.{true};
-ghost use mathlib.Core.List.{[]};
-ghost use mathlib.Core.Option.{Option};
 ghost use Prim.Native.Nat.{_≤_};
 ghost use lib.ListN.{length};
 ghost use Rattle.cache.specs.File.{isWellFormed};
 ghost use Rattle.frames.specs.First.{FactsLie};
-ghost use Rattle.peers.specs.declared.Peer.{Peer};
-ghost use Rattle.rules.specs.OnePeer.{refuse, steps, refusal};
-ghost use Rattle.rules.specs.Told.{withKey, withSuites, callOf, Gets, ClockFits, Ready, firstFor};
-ghost use Rattle.verdicts.specs.Decided.{decidedOf, waitingOf, Writable, acceptedOf};
+ghost use Rattle.frames.specs.Header.{headerSize};
+ghost use Rattle.rules.specs.OnePeer.{refuse, steps, refusal, acceptance, firstOutcome};
+ghost use Rattle.rules.specs.Told.{withKey, withSuites, leavesOf, Gets, Timely, Ready};
+ghost use Rattle.verdicts.specs.Decided.{passedOf, decidedOf, Writable};
 use frames::first::Facts;
 use frames::first::First;
 use frames::second::Chosen;
-use peers::Peer;
+use frames::second::SECOND;
+use peers::Agreed;
 use peers::Phase;
 use rules::Answer;
 use rules::Brought;
 use rules::Leaves;
+use rules::Refusal;
 use rules::Verdict;
 use rules::steps::KeySteps;
 use rules::steps::SuiteSteps;
 use suites::Akm;
 use suites::Group;
-use suites::KeyForm;
-use units::Seconds;
 use units::Tu;
 
-enum Decision {
-    Passed,
-    Refused(u16),
+// What a second frame is made of, beside the PMKID: what was agreed, the MIC's length, and the group.
+struct Accepted {
+    agreed: Agreed,
+    mic: usize,
+    group: Group,
 }
 
-// What the steps come to; the values count where they passed.
+enum Decision {
+    Passed(Accepted),
+    Refused(Refusal),
+}
+
+// What the steps come to, and the PMKID of what was agreed: zeros where there is none.
 struct Decided {
     decision: Decision,
-    cipher: u8,
-    akm: Akm,
-    cached: bool,
     pmkid: [u8; 16],
-    group: Group,
-    lifetime: Seconds,
 }
 
-fn refused(status: u16) -> Decided
-    ensures { λ r. ⌜ decidedOf r ≡ refuse status ⌝ }
+fn refused(why: Refusal) -> Decided
+    ensures { λ r. ⌜ decidedOf r ≡ refuse why ⌝ }
 {
-    let akm = Akm {
-        kind: 0,
-        mic: 0,
-        pmk: false,
-    };
-    let form = KeyForm {
-        length: 0,
-        lowest: 0,
-        highest: 0,
-    };
-    let group = Group {
-        number: 0,
-        compressed: form,
-        uncompressed: form,
-    };
     Decided {
-        decision: Decision::Refused(status),
-        cipher: 0,
-        akm: akm,
-        cached: false,
+        decision: Decision::Refused(why),
         pmkid: [0; 16],
-        group: group,
-        lifetime: Seconds(0),
     }
 }
 
@@ -94,22 +74,28 @@ fn with_key(
     let settings = brought.settings;
     let step = rules::steps::pmkid_step(akm, file, &body[start..end], brought.reading);
     if !step.passed {
-        return refused(53);
+        return refused(Refusal::Pmkid);
     }
     if full {
-        return refused(30);
+        return refused(Refusal::TableFull);
     }
     let pmkid = step.pmkid;
     let asked = facts.lifetime;
     let most = settings.lifetime;
-    Decided {
-        decision: Decision::Passed,
+    let agreed = Agreed {
         cipher: cipher,
-        akm: akm,
+        akm: akm.kind,
         cached: step.cached,
-        pmkid: pmkid,
-        group: group,
         lifetime: rules::steps::lifetime_of(most, asked),
+    };
+    let accepted = Accepted {
+        agreed: agreed,
+        mic: akm.mic,
+        group: group,
+    };
+    Decided {
+        decision: Decision::Passed(accepted),
+        pmkid: pmkid,
     }
 }
 
@@ -129,9 +115,10 @@ fn with_suites(
     let key = facts.key;
     let start = key.start;
     let end = key.end;
-    let keyed = rules::steps::key_steps(facts.group, &body[start..end], brought.point);
+    let lent = brought.lent;
+    let keyed = rules::steps::key_steps(facts.group, &body[start..end], lent.point);
     match keyed {
-        KeySteps::Refused(status) => refused(status),
+        KeySteps::Refused(why) => refused(why),
         KeySteps::Passed(group) => {
             with_key(brought, file, body, full, facts, cipher, akm, group)
         }
@@ -141,105 +128,90 @@ fn with_suites(
 // The eleven steps.
 fn decide(brought: Brought, file: &[u8], body: &[u8], full: bool) -> Decided
     requires { ⌜ isWellFormed (now file) ≡ true ⌝ }
-    ensures { λ r. ⌜ decidedOf r ≡ steps (callOf brought (now (file .entry)) [] [] (now (body .entry)) 0) full ⌝ }
+    ensures { λ r. ⌜ decidedOf r ≡ steps brought (now (file .entry)) (now (body .entry)) full ⌝ }
 {
     let frame = frames::first::read(body);
     let First::Is(facts) = frame else {
-        return refused(40);
+        return refused(Refusal::IllFormed);
     };
     let settings = brought.settings;
     let rsne = facts.rsne;
     let suited = rules::steps::suite_steps(settings, facts.format, rsne);
     match suited {
-        SuiteSteps::Refused(status) => refused(status),
+        SuiteSteps::Refused(why) => refused(why),
         SuiteSteps::Passed { cipher, akm } => {
             with_suites(brought, file, body, full, facts, cipher, akm)
         }
     }
 }
 
-// A refusal: six octets. Status 30 changes no record.
-fn refuse_with(algorithm: u16, status: u16, reply: &mut [u8]) -> Verdict
-    requires { ⌜ 6 ≤ length (now reply) ⌝ }
-    ensures { λ r. ⌜ ((own : Option Peer) → Gets (refusal algorithm status own) own (now (reply .entry)) (now (reply .exit)) r) ⌝ }
+// What a refusal leaves, where `waiting` says whether a record waits.
+fn left_by(why: Refusal, waiting: bool) -> Leaves
+    ensures { λ r. ⌜ r ≡ leavesOf (refusal 0 waiting why .leaves) ⌝ }
 {
-    let length = frames::second::put_header(reply, algorithm, status);
-    if status == 30 {
-        return Verdict {
-            answer: Answer::Refused(status),
-            length: length,
-            leaves: Leaves::Same,
-            peer: peers::vacant(),
-        };
+    if rules::spares(why) {
+        return Leaves::Same;
     }
+    if waiting {
+        return Leaves::Gone;
+    }
+    Leaves::Same
+}
+
+// A refusal: six octets.
+fn refuse_with(algorithm: u16, waiting: bool, why: Refusal, reply: &mut [u8]) -> Verdict
+    requires { ⌜ headerSize ≤ length (now reply) ⌝ }
+    ensures { λ r. ⌜ Gets (refusal algorithm waiting why) (now (reply .entry)) (now (reply .exit)) r ⌝ }
+{
+    let length = frames::header::put(reply, algorithm, SECOND, rules::status_of(why));
     Verdict {
-        answer: Answer::Refused(status),
+        answer: Answer::Refused(why),
         length: length,
-        leaves: Leaves::WaitingGoes,
-        peer: peers::vacant(),
+        leaves: left_by(why, waiting),
+        pmkid: [0; 16],
     }
 }
 
-// The record that waits for the third frame.
-fn waiting(brought: Brought, decided: Decided, pmkid: [u8; 16]) -> Peer
-    requires { ⌜ ClockFits brought ⌝ }
-    ensures { λ r. ⌜ r ≡ waitingOf brought decided pmkid ⌝ }
-{
-    let settings = brought.settings;
-    let akm = decided.akm;
-    let address = brought.address;
-    let lifetime = decided.lifetime;
-    let reading = brought.reading;
-    let deadline = settings.deadline;
-    Peer {
-        address: address,
-        pmkid: pmkid,
-        cached: decided.cached,
-        phase: Phase::Waiting(Tu(reading.0 + deadline.0)),
-        cipher: decided.cipher,
-        akm: akm.kind,
-        lifetime: lifetime,
-    }
-}
-
-// The second frame, for a frame that passed the steps, where our own key is one of its group.
+// The second frame, for a frame that passed the steps, where our own key is one of its group. `pmkids` is the PMKID that it lists, or none.
 fn accept(
     brought: Brought,
-    decided: Decided,
+    accepted: Accepted,
     pmkid: [u8; 16],
     pmkids: &[u8],
     algorithm: u16,
     key: &[u8],
     reply: &mut [u8],
 ) -> Verdict
-    requires { ⌜ ClockFits brought × Writable decided (length (now pmkids)) (now key) (length (now reply)) ⌝ }
-    ensures { λ r. ⌜ ((own : Option Peer) → Gets (acceptedOf brought decided pmkid (now (pmkids .entry)) algorithm (now (key .entry))) own (now (reply .entry)) (now (reply .exit)) r) ⌝ }
+    requires { ⌜ Timely brought × Writable (passedOf accepted pmkid) (now pmkids) (now key) (length (now reply)) ⌝ }
+    ensures { λ r. ⌜ Gets (acceptance brought (now (key .entry)) algorithm (passedOf accepted pmkid)) (now (reply .entry)) (now (reply .exit)) r ⌝ }
 {
-    let group = decided.group;
+    let group = accepted.group;
     if !suites::is_key_of(group, key) {
-        return rules::only(Answer::OwnKey, Leaves::Same);
+        return rules::silent(Answer::OwnKey, Leaves::Same);
     }
-    let akm = decided.akm;
-    let lifetime = decided.lifetime;
+    let agreed = accepted.agreed;
+    let lifetime = agreed.lifetime;
     let chosen = Chosen {
         algorithm: algorithm,
-        cipher: decided.cipher,
-        akm: akm.kind,
+        cipher: agreed.cipher,
+        akm: agreed.akm,
         lifetime: lifetime,
         group: group.number,
-        mic: akm.mic,
+        mic: accepted.mic,
     };
     let length = frames::second::put(reply, chosen, pmkids, key);
-    let peer = waiting(brought, decided, pmkid);
+    let reading = brought.reading;
+    let settings = brought.settings;
+    let deadline = settings.deadline;
     Verdict {
         answer: Answer::Accepted,
         length: length,
-        leaves: Leaves::Becomes,
-        peer: peer,
+        leaves: Leaves::Becomes(agreed, Phase::Waiting(Tu(reading.0 + deadline.0))),
+        pmkid: pmkid,
     }
 }
 
-// What a first frame gets of a peer that is not installed.
+// What a first frame gets of a peer that is not installed; `waiting` says whether a record of it waits.
 pub fn answer(
     brought: Brought,
     file: &[u8],
@@ -247,29 +219,23 @@ pub fn answer(
     body: &[u8],
     algorithm: u16,
     full: bool,
+    waiting: bool,
     reply: &mut [u8],
 ) -> Verdict
     requires { ⌜ Ready brought (now file) (length (now reply)) ⌝ }
-    ensures { λ r. ⌜ ((own : Option Peer) → Gets (firstFor brought (now (file .entry)) (now (key .entry)) (now (body .entry)) algorithm full own) own (now (reply .entry)) (now (reply .exit)) r) ⌝ }
+    ensures { λ r. ⌜ Gets (firstOutcome brought (now (key .entry)) algorithm waiting (steps brought (now (file .entry)) (now (body .entry)) full)) (now (reply .entry)) (now (reply .exit)) r ⌝ }
 {
     let decided = decide(brought, file, body, full);
     let decision = decided.decision;
+    let pmkid = decided.pmkid;
     match decision {
-        Decision::Refused(status) => refuse_with(algorithm, status, reply),
-        Decision::Passed => {
-            let pmkid = decided.pmkid;
-            if decided.cached {
-                return accept(brought, decided, pmkid, &pmkid, algorithm, key, reply);
+        Decision::Refused(why) => refuse_with(algorithm, waiting, why, reply),
+        Decision::Passed(accepted) => {
+            let agreed = accepted.agreed;
+            if agreed.cached {
+                return accept(brought, accepted, pmkid, &pmkid, algorithm, key, reply);
             }
-            accept(
-                brought,
-                decided,
-                [0; 16],
-                &pmkid[..0],
-                algorithm,
-                key,
-                reply,
-            )
+            accept(brought, accepted, pmkid, &pmkid[..0], algorithm, key, reply)
         }
     }
 }

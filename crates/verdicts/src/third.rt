@@ -1,10 +1,11 @@
 // The third frame.
+ghost use Prim.Native.Nat.{_^_, _≤_};
 ghost use mathlib.Core.Path.{_≡_};
-ghost use mathlib.Core.Bool.{true};
 ghost use mathlib.Core.Option.{some};
-ghost use Rattle.units.specs.Units.{inClock};
-ghost use Rattle.rules.specs.OnePeer.{installedPeer, thirdFrame};
-ghost use Rattle.rules.specs.Told.{Decides, thirdCall};
+ghost use Rattle.units.specs.Units.{inTu};
+ghost use Rattle.peers.specs.declared.Phase.the-variants.{Installed};
+ghost use Rattle.rules.specs.OnePeer.{after, thirdFrame};
+ghost use Rattle.rules.specs.Told.{Decides};
 use frames::third::Third;
 use peers::Peer;
 use peers::Phase;
@@ -12,50 +13,50 @@ use rules::Answer;
 use rules::Leaves;
 use rules::Verdict;
 use suites::AkmEntry;
+use units::Seconds;
 use units::Tu;
 
-fn installed(peer: Peer, reading: Tu) -> Peer
-    requires { ⌜ inClock reading ≡ true ⌝ }
-    ensures { λ r. ⌜ r ≡ installedPeer reading peer ⌝ }
+// Installed until the lifetime has passed.
+fn installed(lifetime: Seconds, reading: Tu) -> Phase
+    requires { ⌜ reading .0 ≤ 2 ^ 48 ⌝ }
+    ensures { λ r. ⌜ r ≡ Installed (after reading (inTu lifetime)) ⌝ }
 {
-    let lifetime = peer.lifetime;
     let time = units::in_tu(lifetime);
-    let phase = Phase::Installed(Tu(reading.0 + time.0));
-    Peer {
-        phase: phase,
-        ..peer
-    }
+    Phase::Installed(Tu(reading.0 + time.0))
 }
 
 // What a third frame gets of a peer with a live record.
 pub fn answer(peer: Peer, reading: Tu, mic: &[u8], body: &[u8], status: u16) -> Verdict
-    requires { ⌜ inClock reading ≡ true ⌝ }
-    ensures { λ r. ⌜ Decides (thirdFrame (thirdCall reading (now (mic .entry)) (now (body .entry))) status (some peer)) (some peer) r ⌝ }
+    requires { ⌜ reading .0 ≤ 2 ^ 48 ⌝ }
+    ensures { λ r. ⌜ Decides (thirdFrame reading (now (mic .entry)) (now (body .entry)) status (some peer)) r ⌝ }
 {
     let phase = peer.phase;
     let Phase::Waiting(_) = phase else {
-        return rules::only(Answer::NoExchange, Leaves::Same);
+        return rules::silent(Answer::NoExchange, Leaves::Same);
     };
     if status != 0 {
-        return rules::only(Answer::StatusNotZero, Leaves::WaitingGoes);
+        return rules::silent(Answer::StatusNotZero, Leaves::Gone);
     }
-    let entry = suites::akm_of(peer.akm);
+    let agreed = peer.agreed;
+    let entry = suites::akm_of(agreed.akm);
     let AkmEntry::In(akm) = entry else {
-        return rules::only(Answer::ThirdRefused, Leaves::WaitingGoes);
+        return rules::silent(Answer::ThirdRefused, Leaves::Gone);
     };
     let third = frames::third::read(body, akm.mic);
     let Third::Mic(part) = third else {
-        return rules::only(Answer::ThirdRefused, Leaves::WaitingGoes);
+        return rules::silent(Answer::ThirdRefused, Leaves::Gone);
     };
     let start = part.start;
     let end = part.end;
     if octets::same(&body[start..end], mic) {
+        let pmkid = peer.pmkid;
+        let lifetime = agreed.lifetime;
         return Verdict {
             answer: Answer::Installed,
             length: 0,
-            leaves: Leaves::Becomes,
-            peer: installed(peer, reading),
+            leaves: Leaves::Becomes(agreed, installed(lifetime, reading)),
+            pmkid: pmkid,
         };
     }
-    rules::only(Answer::ThirdRefused, Leaves::WaitingGoes)
+    rules::silent(Answer::ThirdRefused, Leaves::Gone)
 }

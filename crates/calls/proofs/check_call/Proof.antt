@@ -1,6 +1,6 @@
 use mathlib.Core.Path.{sym, _∙_}
 use borrow.Author.Tests.{lt-ltb, le-ltb, not-true, not-false}
-use Rattle.calls.specs.Calls.{checkedOf}
+use Rattle.rules.specs.OnePeer.{checks}
 use borrow.Author.Needs.{needs}
 use Rattle.calls.proofs.check_call.Statement.{statement}
 use Rattle.calls.proofs.check_call.Tie as tie
@@ -9,11 +9,11 @@ clock-fits-requires : tie.Need-clock-fits-requires
 clock-fits-requires c κs = search needs
 
 returns : tie.Need-returns
-unfolding checkedOf
+unfolding checks
 returns c = rw (sym (c .before .clock-fits .ensures) ∙ not-true _ (c .if1 .taken))
 
 returns-2 : tie.Need-returns-2
-unfolding checkedOf
+unfolding checks
 returns-2 c =
     let p = c .before .before in
     rw (sym (p .clock-fits .ensures) ∙ not-false _ (c .before .if1 .left), lt-ltb _ _ (c .if2 .taken))
@@ -22,7 +22,7 @@ settings-fit-requires : tie.Need-settings-fit-requires
 settings-fit-requires c κs = search needs
 
 returns-3 : tie.Need-returns-3
-unfolding checkedOf
+unfolding checks
 returns-3 c =
     let p = c .before .before in
     let q = p .before in
@@ -33,7 +33,7 @@ is-group-address-requires : tie.Need-is-group-address-requires
 is-group-address-requires c κs = search needs
 
 returns-4 : tie.Need-returns-4
-unfolding checkedOf
+unfolding checks
 returns-4 c =
     let p = c .before .before in
     let q = p .before in
@@ -46,7 +46,7 @@ is-well-formed-requires : tie.Need-is-well-formed-requires
 is-well-formed-requires c κs = search needs
 
 returns-5 : tie.Need-returns-5
-unfolding checkedOf
+unfolding checks
 returns-5 c =
     let p = c .before .before in
     let q = p .before in
@@ -58,7 +58,7 @@ returns-5 c =
     rw (sym (w .clock-fits .ensures) ∙ not-false _ (v .if1 .left), le-ltb _ _ (u .if2 .left), sym (s .settings-fit .ensures) ∙ not-false _ (r .if3 .left), sym (q .is-group-address .ensures) ∙ p .if4 .left, sym (c .before .is-well-formed .ensures) ∙ not-true _ (c .if5 .taken))
 
 returns-6 : tie.Need-returns-6
-unfolding checkedOf
+unfolding checks
 returns-6 c =
     let p = c .before .before in
     let q = p .before in

@@ -1,7 +1,7 @@
 use mathlib.Core.Path.{sym, ap, _∙_}
 use mathlib.Core.Bool.{not}
 use borrow.Author.Needs.{needs}
-use Rattle.calls.specs.Calls.{waits, isInstalled}
+use Rattle.rules.specs.OnePeer.{waits, isInstalled}
 use Rattle.calls.proofs.Seen.{seen-at, seen-none}
 use Rattle.calls.proofs.is_installed.Statement.{statement}
 use Rattle.calls.proofs.is_installed.Tie as tie

@@ -1,5 +1,5 @@
 use mathlib.Core.Path.{sym, ap}
-use Rattle.calls.specs.Calls.{waits}
+use Rattle.rules.specs.OnePeer.{waits}
 use Rattle.calls.proofs.Seen.{seen-none}
 use borrow.Author.Needs.{needs}
 use Rattle.calls.proofs.is_waiting.Statement.{statement}

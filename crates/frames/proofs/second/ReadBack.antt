@@ -1,15 +1,13 @@
 -- A second frame, read back, shows exactly what was chosen.
 use mathlib.Core.Path.{_≡_, refl, sym, ap, _∙_}
 use mathlib.Core.List.{List, [], _++_, append-assoc, append-nil}
-use mathlib.Core.Option.{some}
+use mathlib.Core.Option.{none, some, Option·some-injective}
 use Prim.Native.Nat.{ℕ, _+_, _-_, _*_, _^_, _<_, _≤_}
 use native.Mathlib.Nat.{add-sub-cancel}
 use native.Mathlib.Omega.{arith}
-use borrow.Author.Tests.{le-ltb}
 use lib.ListN.{length, drop, replicate, length-append, length-drop}
 use lib.Seq.{take-at, drop-append-add, drop-append-le}
 use Rattle.octets.specs.Numbers.{octets}
-use Rattle.octets.proofs.Numbers.{reads-back}
 use Rattle.elements.specs.declared.Opened.{Opened}
 use Rattle.elements.specs.declared.Part.{Part}
 use Rattle.elements.specs.declared.Scan.{Scan}
@@ -21,36 +19,22 @@ use Rattle.elements.proofs.Written.{written-none, written-more}
 use Rattle.suites.specs.declared.Suite.the-variants.{Ours}
 use Rattle.layouts.specs.declared.rsne.Only.{Only}
 use Rattle.layouts.specs.Mic.{micOctets}
-use Rattle.layouts.specs.Parameters.{parametersOctets}
+use Rattle.layouts.specs.declared.parameters.Side.the-variants.{AccessPoint}
+use Rattle.layouts.specs.Parameters.{Said, contentOctets, parametersOctets}
 use Rattle.layouts.specs.Rsne.{rsneOctets}
 use Rattle.layouts.specs.Timeout.{timeoutOctets}
 use Rattle.layouts.proofs.mic.Laws.{length-mic, mic-content as mic-zeros}
-use Rattle.layouts.proofs.parameters.Laws.{length-parameters, parameters-read-back, key-part}
+use Rattle.layouts.proofs.parameters.Inverse.{written-reads-back}
+use Rattle.layouts.proofs.parameters.Laws.{length-with-key, after-the-extension}
 use Rattle.layouts.proofs.rsne.Laws.{length-rsne, rsne-reads-back, pmkids-content}
 use Rattle.layouts.proofs.timeout.Laws.{length-timeout, timeout-reads-back}
 use Rattle.frames.specs.declared.second.Chosen.{Chosen}
 use Rattle.frames.specs.Contents.{content, extended}
-use Rattle.frames.specs.Second.{headerOctets, secondOctets}
+use Rattle.frames.specs.Header.{headerOctets}
+use Rattle.frames.specs.Second.{secondOctets}
 use Rattle.frames.specs.SecondRead.{secondOf}
-use Rattle.frames.proofs.second.Lengths.{length-header}
-
-pub header-reads-back : (algorithm status : ℕ) (rest : List ℕ) → algorithm < 2 ^ 16 → status < 2 ^ 16 → length rest ≤ 1018
-    → bodyOf (headerOctets algorithm status ++ rest) ≡ Opened.Body (record { algorithm = algorithm; transaction = 2; status = status })
-unfolding bodyOf headerOctets octets
-header-reads-back algorithm status rest a b h =
-    let s : List ℕ = headerOctets algorithm status ++ rest in
-    rw (
-      le-ltb (length s) 6 (omega arith),
-      le-ltb 1024 (length s) (omega arith),
-      reads-back 2 algorithm [] (octets 2 2 ++ octets 2 status ++ rest) a,
-      reads-back 2 2 (octets 2 algorithm) (octets 2 status ++ rest) (omega arith),
-      reads-back 2 status (octets 2 algorithm ++ octets 2 2) rest b,
-    )
-
-pub refusal-reads-back : (algorithm status : ℕ) → algorithm < 2 ^ 16 → status < 2 ^ 16
-    → bodyOf (headerOctets algorithm status) ≡ Opened.Body (record { algorithm = algorithm; transaction = 2; status = status })
-unfolding headerOctets octets
-refusal-reads-back algorithm status a b = header-reads-back algorithm status [] a b (omega arith)
+use Rattle.frames.proofs.header.Laws.{length-header, header-reads-back}
+use Rattle.frames.proofs.second.Laws.{length-second}
 
 -- the octets of an element in a string, from the k-th on
 part-content : (s before w after : List ℕ) (k : ℕ) (p : Part) → s ≡ before ++ w ++ after
@@ -58,7 +42,7 @@ part-content : (s before w after : List ℕ) (k : ℕ) (p : Part) → s ≡ befo
 part-content s before w after k p is (h, a, b) =
     rw (is, a, b, append-assoc, drop-append-add, drop-append-le) (take-at (drop k w) after (length before + length w - (length before + k)) (omega (arith, length-drop k w)))
 
-ruleset lengths = (length-append, length-header, length-rsne, length-timeout, length-parameters, length-mic)
+ruleset lengths = (length-append, length-header, length-rsne, length-timeout, length-with-key, length-mic)
 
 -- What fits the layouts: numbers of two octets, a lifetime of four that is not 0, lengths of one, and p whole PMKIDs.
 pub record Readable (chosen : Chosen) (pmkids key : List ℕ) (p : ℕ) : Type 0 where
@@ -72,16 +56,12 @@ pub record Readable (chosen : Chosen) (pmkids key : List ℕ) (p : ℕ) : Type 0
   pub key-fits : length key < 250
 
 module _ (chosen : Chosen) (pmkids key : List ℕ) where
-  pub length-second : length (secondOctets chosen pmkids key) ≡ length pmkids + length key + chosen .mic + 51
-  unfolding secondOctets
-  length-second = simp lengths (omega arith)
-
   abbrev s : List ℕ
   s = secondOctets chosen pmkids key
 
   -- the pieces, in their order
   abbrev header : List ℕ
-  header = headerOctets (chosen .algorithm) 0
+  header = headerOctets (chosen .algorithm) 2 0
 
   abbrev rsne : List ℕ
   rsne = rsneOctets (chosen .cipher) (chosen .akm) pmkids
@@ -89,8 +69,11 @@ module _ (chosen : Chosen) (pmkids key : List ℕ) where
   abbrev timeout : List ℕ
   timeout = timeoutOctets (chosen .lifetime)
 
+  abbrev said : Said AccessPoint
+  said = record { comeback = none; format = 0; offer = some (chosen .group, key) }
+
   abbrev parameters : List ℕ
-  parameters = parametersOctets (chosen .group) key
+  parameters = parametersOctets AccessPoint said
 
   abbrev mic : List ℕ
   mic = micOctets (chosen .mic)
@@ -112,17 +95,17 @@ module _ (chosen : Chosen) (pmkids key : List ℕ) where
       → scanOf s ≡ Scan.Walked (record { rsne = One inRsne; timeout = One inTimeout; mic = One inMic; fragment = None; parameters = One inParameters; wrapped = None })
   unfolding secondOctets rsneOctets timeoutOctets parametersOctets micOctets placesOf
   second-scanned h =
-      let w₀ = written-none header {n = 6} (length-header (chosen .algorithm) 0) in
+      let w₀ = written-none header {n = 6} (length-header (chosen .algorithm) 2 0) in
       let w₁ = written-more w₀ 48 (length pmkids + 26) (drop 2 rsne) inRsne (omega (arith, length-rsne (chosen .cipher) (chosen .akm) pmkids)) in
       let w₂ = written-more w₁ 56 5 (drop 2 timeout) inTimeout (omega (arith, length-timeout (chosen .lifetime))) in
-      let w₃ = written-more w₂ 255 (length key + 6) (drop 2 parameters) inParameters (omega (arith, length-parameters (chosen .group) key)) in
+      let w₃ = written-more w₂ 255 (length (contentOctets AccessPoint said) + 1) (drop 2 parameters) inParameters (omega (arith, length-with-key AccessPoint 0 (chosen .group) key)) in
       let w₄ = written-more w₃ 140 (chosen .mic) (drop 2 mic) inMic (omega (arith, length-mic (chosen .mic))) in
-      in-body s (omega (arith, length-second)) h ∙ ap scanBy (w₄ .walks)
+      in-body s (omega (arith, length-second chosen pmkids key)) h ∙ ap scanBy (w₄ .walks)
 
   opened : chosen .algorithm < 2 ^ 16 → length s ≤ 1024
       → bodyOf s ≡ Opened.Body (record { algorithm = chosen .algorithm; transaction = 2; status = 0 })
   unfolding secondOctets headerOctets octets
-  opened small h = header-reads-back (chosen .algorithm) 0 (rsne ++ timeout ++ parameters ++ mic) small (omega arith) (omega arith)
+  opened small h = header-reads-back (chosen .algorithm) 2 0 small (omega arith) (omega arith) (rsne ++ timeout ++ parameters ++ mic) (omega arith)
 
   rsne-content : content s inRsne ≡ drop 2 rsne
   unfolding secondOctets
@@ -160,7 +143,9 @@ module _ (chosen : Chosen) (pmkids key : List ℕ) where
       })
   unfolding secondOf
   second-reads-back p r =
-      let fits : length s ≤ 1024 = omega (arith, length-second) in
+      let fits : length s ≤ 1024 = omega (arith, length-second chosen pmkids key) in
+      let back = written-reads-back AccessPoint said tt (r .group) in
+      let offer = Option·some-injective _ _ (ap (λ (x : Said AccessPoint). x .offer) (back .says)) in
       rw (
         opened (r .algorithm) fits,
         second-scanned fits,
@@ -169,18 +154,11 @@ module _ (chosen : Chosen) (pmkids key : List ℕ) where
         timeout-content,
         timeout-reads-back (chosen .lifetime) (r .asked) (r .lifetime),
         parameters-content,
-        parameters-read-back (chosen .group) key (r .group),
+        after-the-extension AccessPoint said,
+        back .reads,
         mic-content,
         add-sub-cancel (length pmkids) 22,
-        add-sub-cancel (length key) 5,
         pmkids-content (chosen .cipher) (chosen .akm) pmkids,
-        key-part (chosen .group) key,
+        ap (λ (x : ℕ × List ℕ). x .1) offer,
         mic-zeros (chosen .mic),
       )
-
--- The shortest frame and the longest, with the tables' keys and MIC.
-pub shortest : (chosen : Chosen) (key : List ℕ) → length key ≡ 33 → chosen .mic ≡ 16 → length (secondOctets chosen [] key) ≡ 100
-shortest chosen key k m = omega (arith, length-second chosen [] key)
-
-pub longest : (chosen : Chosen) (pmkids key : List ℕ) → length pmkids ≡ 16 → length key ≡ 65 → chosen .mic ≡ 16 → length (secondOctets chosen pmkids key) ≡ 148
-longest chosen pmkids key p k m = omega (arith, length-second chosen pmkids key)

@@ -3,9 +3,9 @@ use mathlib.Core.Path.{_≡_, refl}
 use Prim.Native.Nat.{ℕ, _+_}
 use native.Mathlib.Omega.{arith}
 use lib.ListN.{length, drop, replicate, length-replicate}
-use Rattle.layouts.specs.Mic.{micOctets}
+use Rattle.layouts.specs.Mic.{micSize, micOctets}
 
-pub length-mic : (n : ℕ) → length (micOctets n) ≡ n + 2
+pub length-mic : (n : ℕ) → length (micOctets n) ≡ n + micSize
 unfolding micOctets
 length-mic n = omega (arith, length-replicate {A = ℕ} n 0)
 

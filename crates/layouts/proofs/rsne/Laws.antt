@@ -22,7 +22,7 @@ use Rattle.layouts.specs.declared.rsne.Only.the-variants.{One}
 use Rattle.layouts.specs.declared.rsne.Rsne.{Rsne}
 use Rattle.layouts.specs.declared.rsne.Reading.{Reading}
 use Rattle.layouts.specs.declared.rsne.Reading.the-variants.{Is, Ill}
-use Rattle.layouts.specs.Rsne.{onlyOf, pairwiseCount, akmCount, pmkidCount, rsneWith, rsneOf, rsneOctets}
+use Rattle.layouts.specs.Rsne.{onlyOf, pairwiseCount, akmCount, pmkidCount, rsneWith, rsneOf, rsneSize, rsneOctets}
 use Rattle.octets.proofs.Choice.{unless}
 
 module _ (s : List ℕ) where
@@ -67,7 +67,7 @@ module _ (s : List ℕ) where
       rw (g, w, k, x, t) (simp (e₁) at all)
 
 module _ (cipher akm : ℕ) (pmkids : List ℕ) where
-  pub length-rsne : length (rsneOctets cipher akm pmkids) ≡ length pmkids + 28
+  pub length-rsne : length (rsneOctets cipher akm pmkids) ≡ length pmkids + rsneSize
   unfolding rsneOctets octets suiteOctets
   length-rsne = omega (arith, length-append pmkids (suiteOctets 7))
 

@@ -1,5 +1,5 @@
 use mathlib.Core.Path.{subst}
-use Rattle.state.specs.State.{IsPlace}
+use Rattle.peers.specs.Promises.{IsPlace}
 use borrow.Author.Needs.{needs}
 use Rattle.state.proofs.peer_found.Statement.{statement}
 use Rattle.state.proofs.peer_found.Tie as tie

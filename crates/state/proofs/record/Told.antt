@@ -63,13 +63,13 @@ phase-back (Installed end) = refl
 
 module _ (p : Peer) {before after : List ℕ} (head : TellsHead p before after) where
   abbrev flag : List ℕ
-  flag = yesNumber (p .cached) ∷ []
+  flag = yesNumber (p .agreed .cached) ∷ []
 
   abbrev suites : List ℕ
-  suites = phaseNumber (p .phase) ∷ p .cipher ∷ p .akm ∷ 0 ∷ 0 ∷ []
+  suites = phaseNumber (p .phase) ∷ p .agreed .cipher ∷ p .agreed .akm ∷ 0 ∷ 0 ∷ []
 
   abbrev lifetime : List ℕ
-  lifetime = octets 4 (p .lifetime .0)
+  lifetime = octets 4 (p .agreed .lifetime .0)
 
   abbrev time : List ℕ
   time = octets 8 (until (p .phase) .0)
@@ -100,9 +100,9 @@ module _ (p : Peer) {before after : List ℕ} (head : TellsHead p before after) 
 
   time-stands : Stands time untilAt (octetsOf p)
   unfolding octetsOf
-  time-stands = stands-last (headOf p ++ lifetime) time (length-append (headOf p) lifetime ∙ omega (arith, head .wrote .tells, length-octets 4 (p .lifetime .0)))
+  time-stands = stands-last (headOf p ++ lifetime) time (length-append (headOf p) lifetime ∙ omega (arith, head .wrote .tells, length-octets 4 (p .agreed .lifetime .0)))
 
-  pub told : p .lifetime .0 < 256 ^ 4 → until (p .phase) .0 < 256 ^ 8 → peerOf (octetsOf p) ≡ p
+  pub told : p .agreed .lifetime .0 < 256 ^ 4 → until (p .phase) .0 < 256 ^ 8 → peerOf (octetsOf p) ≡ p
   unfolding peerOf
   told lifetime-fits time-fits =
       rw (
@@ -112,8 +112,8 @@ module _ (p : Peer) {before after : List ℕ} (head : TellsHead p before after) 
         read-octet (in-head suites-stand) 0 (omega arith),
         read-octet (in-head suites-stand) 1 (omega arith),
         read-octet (in-head suites-stand) 2 (omega arith),
-        read-number 4 (p .lifetime .0) lifetime-stands lifetime-fits,
+        read-number 4 (p .agreed .lifetime .0) lifetime-stands lifetime-fits,
         read-number 8 (until (p .phase) .0) time-stands time-fits,
-        yes-back (p .cached),
+        yes-back (p .agreed .cached),
         phase-back (p .phase),
       )

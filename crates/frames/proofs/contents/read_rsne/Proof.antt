@@ -1,8 +1,8 @@
-use Rattle.frames.proofs.Otherwise.{one-lies, not-one}
 use mathlib.Core.Path.{refl, sym, _∙_}
 use native.Mathlib.Omega.{arith}
-use Rattle.frames.specs.Contents.{rsneIn}
+use Rattle.frames.specs.ByElement.{rsneIn}
 use Rattle.frames.proofs.Inner.{rsne-lies}
+use Rattle.frames.proofs.Otherwise.{one-lies, not-one}
 use borrow.Author.Needs.{needs}
 use Rattle.frames.proofs.contents.read_rsne.Statement.{statement}
 use Rattle.frames.proofs.contents.read_rsne.Tie as tie

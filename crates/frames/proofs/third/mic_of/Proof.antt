@@ -1,7 +1,7 @@
-use borrow.Author.Tests.{eq-eqb, ne-eqb}
 use mathlib.Core.Path.{refl, sym}
+use borrow.Author.Tests.{eq-eqb, ne-eqb}
 use Rattle.elements.specs.declared.Times.{Times}
-use Rattle.frames.specs.Third.{micOf}
+use Rattle.frames.specs.ByElement.{micIn}
 use Rattle.frames.proofs.Otherwise.{not-one}
 use borrow.Author.Needs.{needs}
 use Rattle.frames.proofs.third.mic_of.Statement.{statement}
@@ -11,7 +11,7 @@ enum-known-mic : tie.Need-enum-known-mic
 enum-known-mic c = search needs
 
 returns : tie.Need-returns
-returns c = sym (not-one (λ (t : Times). micOf t (c .before .args .n)) refl (λ p. refl) (c .before .args .mic) (c .match .keys2))
+returns c = sym (not-one (λ (t : Times). micIn t (c .before .args .n)) refl (λ p. refl) (c .before .args .mic) (c .match .keys2))
 
 sub-if1 : tie.Need-sub-if1
 sub-if1 c = rw (c .before .before .mic .given .1) at (c .before .before .before .before .pre)

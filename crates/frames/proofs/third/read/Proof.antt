@@ -1,38 +1,96 @@
-use mathlib.Core.Path.{sym, _∙_}
+use mathlib.Core.List.{List}
+use mathlib.Core.Path.{_≡_, sym, ap, _∙_}
+use Prim.Native.Nat.{ℕ}
+use lib.ListN.{length}
+use Rattle.elements.specs.declared.Places.{Places}
+use Rattle.elements.specs.declared.Scan.{Scan}
+use Rattle.elements.specs.Scan.{scanOf}
+use Rattle.elements.specs.Within.{Within}
 use Rattle.elements.proofs.Scanning.{within}
+use Rattle.frames.specs.Contents.{isWalked, never, holds}
 use Rattle.frames.specs.Third.{thirdOf}
+use Rattle.frames.proofs.Chain.{apart}
+use Rattle.frames.proofs.Otherwise.{ordered, not-none}
+use Rattle.frames.proofs.third.Laws.{third-ill, third-mic}
 use borrow.Author.Needs.{needs}
 use Rattle.frames.proofs.third.read.Statement.{statement}
 use Rattle.frames.proofs.third.read.Tie as tie
 
+-- After the walk: its places, and where they lie.
+abbrev body : tie.After-known-told → List ℕ
+body c = c .before .before .before .before .before .args .body .now
+
+abbrev places : tie.After-known-told → Places
+places c = c .before .scan .given .0 .0
+
+walked : (c : tie.After-known-told) → scanOf (body c) ≡ Scan.Walked (places c)
+walked c = sym (c .before .before .before .scan-body .ensures) ∙ c .before .scan .given .1
+
+lie : (c : tie.After-known-told) → Within (length (body c)) (places c)
+lie c = within (body c) (places c) (walked c)
+
 scan-body-requires : tie.Need-scan-body-requires
 scan-body-requires c κs = search needs
-
-enum-told : tie.Need-enum-told
-enum-told c = search needs
 
 enum-known-scan : tie.Need-enum-known-scan
 enum-known-scan c = search needs
 
-third-in-requires : tie.Need-third-in-requires
-third-in-requires c κs =
-    let p = c .before .before .before in
-    within _ _ (sym (p .scan-body .ensures) ∙ c .before .scan .given .1)
+enum-told : tie.Need-enum-told
+enum-told c = search needs
 
 returns : tie.Need-returns
 unfolding thirdOf
-returns c =
-    let p = c .before .before in
-    rw (sym (p .scan-body .ensures) ∙ c .enum-told .given .1)
+returns c = rw (sym (c .before .before .scan-body .ensures) ∙ c .enum-told .given .1)
+
+enum-told-2 : tie.Need-enum-told-2
+enum-told-2 c = search needs
 
 returns-2 : tie.Need-returns-2
-unfolding thirdOf
 returns-2 c =
-    let p = c .before .before in
-    let q = p .before .before in
-    rw (sym (q .scan-body .ensures) ∙ p .scan .given .1) (c .third-in .ensures)
+    let p = c .before in
+    third-ill (body p) (p .before .before .before .before .before .args .n) (ap isWalked (walked p)) λ mic s. apart (not-none (places p .fragment) (c .match2 .keys2)) (s .fragment)
+
+enum-told-3 : tie.Need-enum-told-3
+enum-told-3 c = search needs
+
+returns-3 : tie.Need-returns-3
+returns-3 c =
+    let p = c .before .before .before in
+    third-ill (body p) (p .before .before .before .before .before .args .n) (ap isWalked (walked p)) λ mic s. apart (not-none (places p .wrapped) (c .match3 .keys2)) (s .wrapped)
+
+is-quiet-requires : tie.Need-is-quiet-requires
+is-quiet-requires c κs = lie (c .before .before .before .before) .parameters
+
+mic-of-requires : tie.Need-mic-of-requires
+mic-of-requires c κs =
+    let p = c .before .before .before .before .before .before in
+    ordered (length (body p)) (places p .mic) (lie p .mic)
+
+returns-4 : tie.Need-returns-4
+returns-4 c =
+    let p = c .before .before .before .before .before .before .before in
+    c .mic-of .ensures
+    ∙ third-mic (body p) (p .before .before .before .before .before .args .n) (ap isWalked (walked p)) (ap never (c .before .before .before .before .before .enum-told2 .given .1)) (ap never (c .before .before .before .enum-told3 .given .1))
+    (sym (c .before .before .is-quiet .ensures) ∙ ap holds (c .before .if1 .taken))
+
+returns-5 : tie.Need-returns-5
+returns-5 c =
+    let p = c .before .before .before .before .before .before in
+    third-ill (body p) (p .before .before .before .before .before .args .n) (ap isWalked (walked p)) λ mic s. apart (ap holds (sym (c .if1 .left)) ∙ c .before .is-quiet .ensures) (s .quiet)
 
 pub read-spec : {M : Type 1} → statement M
 read-spec =
     tie.close
-    (tie.spec scan-body-requires enum-told enum-known-scan third-in-requires returns returns-2)
+    (tie.spec
+    scan-body-requires
+    enum-known-scan
+    enum-told
+    returns
+    enum-told-2
+    returns-2
+    enum-told-3
+    returns-3
+    is-quiet-requires
+    mic-of-requires
+    returns-4
+    returns-5)

@@ -1,12 +1,23 @@
-use mathlib.Core.Path.{sym, ap, _∙_}
+use mathlib.Core.Path.{_≡_, refl, sym, ap, _∙_}
+use mathlib.Core.Bool.{Bool, true, false}
 use mathlib.Core.List.{List}
+use mathlib.Core.Option.{none, some}
 use Prim.Native.Nat.{ℕ}
+use lib.ListN.{replicate}
+use Rattle.octets.specs.Choice.{if_then_else_}
 use Rattle.cache.specs.File.{recordsOf}
-use Rattle.rules.specs.OnePeer.{pass}
+use Rattle.rules.specs.declared.Refusal.{Refusal}
+use Rattle.rules.specs.OnePeer.{refuse, pass}
+use Rattle.rules.specs.Told.{pmkidStepOf}
 use Rattle.rules.proofs.Pmkids.{in-list, that-part}
 use borrow.Author.Needs.{needs}
 use Rattle.rules.proofs.steps.pmkid_step.Statement.{statement}
 use Rattle.rules.proofs.steps.pmkid_step.Tie as tie
+
+-- with AKM 21: none listed, or refused
+by-none : (none-listed : Bool) → record { passed = none-listed; cached = false; pmkid = replicate 16 0 } ≡ pmkidStepOf (if none-listed then pass none else refuse Refusal.Pmkid)
+by-none true = refl
+by-none false = refl
 
 choose-requires : tie.Need-choose-requires
 choose-requires c κs = search needs
@@ -35,10 +46,10 @@ returns-2 c =
     let q = p .before .before in
     let r = q .before in
     let s = r .before .before .before in
-    rw (r .if1 .taken, sym (q .choose .ensures) ∙ p .choice .given .1) (ap (λ (l : List ℕ). pass l) (c .pmkid-at .ensures ∙ sym (that-part (recordsOf (s .args .file .now)) (s .args .pmkids .now) (s .args .akm .kind) (s .args .reading) (sym (q .choose .ensures) ∙ p .choice .given .1))))
+    rw (r .if1 .taken, sym (q .choose .ensures) ∙ p .choice .given .1) (ap (λ (l : List ℕ). pmkidStepOf (pass (some l))) (c .pmkid-at .ensures ∙ sym (that-part (recordsOf (s .args .file .now)) (s .args .pmkids .now) (s .args .akm .kind) (s .args .reading) (sym (q .choose .ensures) ∙ p .choice .given .1))))
 
 returns-3 : tie.Need-returns-3
-returns-3 c = rw (c .if1 .left)
+returns-3 c = rw (c .if1 .left) (by-none _)
 
 pub pmkid-step-spec : {M : Type 1} → statement M
 pmkid-step-spec =

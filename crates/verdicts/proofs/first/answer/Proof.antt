@@ -1,9 +1,11 @@
-use Rattle.verdicts.proofs.Accepting.{gets-same, refused-same, writable, cached-same, uncached-same}
 use mathlib.Core.Path.{_≡_}
 use native.Mathlib.Omega.{arith}
 use lib.ListN.{length}
 use Prim.Native.Nat.{ℕ}
-use borrow.Author.Needs.{needs, length-unmapped}
+use Rattle.verdicts.proofs.Accepting.{refused-same, accepted-same, writable}
+use Rattle.verdicts.proofs.Verdicts.{gets-same}
+use borrow.Author.Needs.{length-unmapped}
+use borrow.Author.Needs.{needs}
 use Rattle.verdicts.proofs.first.answer.Statement.{statement}
 use Rattle.verdicts.proofs.first.answer.Tie as tie
 
@@ -16,30 +18,27 @@ enum-known-decision c = search needs
 refuse-with-requires : tie.Need-refuse-with-requires
 refuse-with-requires c κs = search needs
 
-enum-told : tie.Need-enum-told
-enum-told c = search needs
+enum-known-decision-2 : tie.Need-enum-known-decision-2
+enum-known-decision-2 c = search needs
 
 slice-aggregate-accept : tie.Need-slice-aggregate-accept
 slice-aggregate-accept c = search needs
 
 accept-requires : tie.Need-accept-requires
 accept-requires c κs =
-    let p = c .before .before .before .before in
-    let q = p .before .before in
-    let r = q .before .before .before .before .before in
-    let n : length (q .decide .result .pmkid) ≡ 16 = length-unmapped ℕ (q .decide .result .pmkid) 16 (q .decide .ok .1 .1 .1 .1 .1 .1 .0 .1 .0 .1) in (r .pre .clock, writable (r .args .brought) (q .decide .result) (r .args .file .now) (r .args .key .now) (r .args .body .now) (r .args .algorithm) (r .args .full) (q .decide .ensures) (p .enum-told .given .1) _ _ (omega arith) (r .pre .room))
+    let a = c .before .before .before .before .before .before .before .before .before .before .before .before .before .args in
+    let d = c .before .before .before .before .before .before .before .before .decide in
+    let n : length (d .result .pmkid) ≡ 16 = length-unmapped ℕ (d .result .pmkid) 16 (search needs) in
+    (c .before .before .before .before .before .before .before .before .before .before .before .before .before .pre .timely, writable (a .brought) (d .result) (a .file .now) (a .key .now) (a .body .now) (a .algorithm) (a .full) (a .waiting) (d .ensures) (c .before .before .before .before .before .decision2 .given .1) (d .result .pmkid) _ (rw (c .before .before .if1 .taken)) (omega arith) (c .before .before .before .before .before .before .before .before .before .before .before .before .before .pre .room))
 
 same-length : tie.Need-same-length
 same-length c = search needs
 
 returns : tie.Need-returns
 returns c =
-    let p = c .before .before in
-    let q = p .before .before .before in
-    let r = q .before .before in
-    let s = r .before .before in
-    let u = s .before .before .before .before .before in
-    let n : length (s .decide .result .pmkid) ≡ 16 = length-unmapped ℕ (s .decide .result .pmkid) 16 (s .decide .ok .1 .1 .1 .1 .1 .1 .0 .1 .0 .1) in λ own. gets-same (cached-same (u .args .brought) (s .decide .result) (u .args .file .now) (u .args .key .now) (u .args .body .now) (u .args .algorithm) (u .args .full) (s .decide .ensures) (r .enum-told .given .1) (q .if1 .taken) n own) (p .accept .ensures own)
+    let a = c .before .before .before .before .before .before .before .before .before .before .before .before .before .before .before .before .args in
+    let d = c .before .before .before .before .before .before .before .before .before .before .before .decide in
+    gets-same (accepted-same (a .brought) (d .result) (a .file .now) (a .key .now) (a .body .now) (a .algorithm) (a .full) (a .waiting) (d .ensures) (c .before .before .before .before .before .before .before .before .decision2 .given .1)) (c .before .before .accept .ensures)
 
 array-share-prefix-pmkid : tie.Need-array-share-prefix-pmkid
 array-share-prefix-pmkid c = search needs
@@ -49,33 +48,27 @@ slice-aggregate-accept-2 c = search needs
 
 accept-requires-2 : tie.Need-accept-requires-2
 accept-requires-2 c κs =
-    let p = c .before .before .before .before in
-    let q = p .before .before in
-    let r = q .before .before .before .before .before in
-    (r .pre .clock, writable (r .args .brought) (q .decide .result) (r .args .file .now) (r .args .key .now) (r .args .body .now) (r .args .algorithm) (r .args .full) (q .decide .ensures) (p .enum-told .given .1) _ _ (omega arith) (r .pre .room))
+    let a = c .before .before .before .before .before .before .before .before .before .before .before .before .before .args in
+    let d = c .before .before .before .before .before .before .before .before .decide in
+    (c .before .before .before .before .before .before .before .before .before .before .before .before .before .pre .timely, writable (a .brought) (d .result) (a .file .now) (a .key .now) (a .body .now) (a .algorithm) (a .full) (a .waiting) (d .ensures) (c .before .before .before .before .before .decision2 .given .1) _ _ (rw (c .before .before .if1 .left)) (omega arith) (c .before .before .before .before .before .before .before .before .before .before .before .before .before .pre .room))
 
 same-length-2 : tie.Need-same-length-2
 same-length-2 c = search needs
 
 returns-2 : tie.Need-returns-2
 returns-2 c =
-    let p = c .before .before in
-    let q = p .before .before .before in
-    let r = q .before .before in
-    let s = r .before .before .before .before .before in
-    λ own. gets-same (refused-same (s .args .brought) (r .decide .result) (s .args .file .now) (s .args .key .now) (s .args .body .now) (s .args .algorithm) (s .args .full) (r .decide .ensures) _ (q .decision .given .1) own) (p .refuse-with .ensures own)
+    let a = c .before .before .before .before .before .before .before .before .before .before .before .before .before .args in
+    let d = c .before .before .before .before .before .before .before .before .decide in
+    gets-same (refused-same (a .brought) (d .result) (a .file .now) (a .key .now) (a .body .now) (a .algorithm) (a .full) (a .waiting) (d .ensures) (c .before .before .before .before .before .decision .given .1)) (c .before .before .refuse-with .ensures)
 
 same-length-3 : tie.Need-same-length-3
 same-length-3 c = search needs
 
 returns-3 : tie.Need-returns-3
 returns-3 c =
-    let p = c .before .before in
-    let q = p .before .before .before in
-    let r = q .before .before in
-    let s = r .before .before in
-    let u = s .before .before .before .before .before in
-    λ own. gets-same (uncached-same (u .args .brought) (s .decide .result) (u .args .file .now) (u .args .key .now) (u .args .body .now) (u .args .algorithm) (u .args .full) (s .decide .ensures) (r .enum-told .given .1) (q .if1 .left) own) (p .accept2 .ensures own)
+    let a = c .before .before .before .before .before .before .before .before .before .before .before .before .before .before .before .before .args in
+    let d = c .before .before .before .before .before .before .before .before .before .before .before .decide in
+    gets-same (accepted-same (a .brought) (d .result) (a .file .now) (a .key .now) (a .body .now) (a .algorithm) (a .full) (a .waiting) (d .ensures) (c .before .before .before .before .before .before .before .before .decision2 .given .1)) (c .before .before .accept2 .ensures)
 
 pub answer-spec : {M : Type 1} → statement M
 answer-spec =
@@ -84,7 +77,7 @@ answer-spec =
     decide-requires
     enum-known-decision
     refuse-with-requires
-    enum-told
+    enum-known-decision-2
     slice-aggregate-accept
     accept-requires
     same-length

@@ -1,6 +1,5 @@
-use mathlib.Core.Path.{sym, ap, subst, _∙_}
-use lib.ListN.{length}
-use Rattle.frames.specs.First.{FirstLies}
+use mathlib.Core.Path.{sym, ap, _∙_}
+use Rattle.frames.specs.First.{isFirst}
 use Rattle.frames.proofs.first.Laws.{first-lies}
 use Rattle.rules.specs.OnePeer.{steps}
 use Rattle.rules.specs.Told.{suitesTold, withKey, withSuites}
@@ -24,7 +23,7 @@ returns : tie.Need-returns
 unfolding steps
 returns c =
     let p = c .before .before .before in
-    c .refused .ensures ∙ rw (sym (p .read .ensures) ∙ c .before .enum-told .given .1)
+    c .refused .ensures ∙ rw (sym (p .read .ensures) ∙ ap isFirst (c .before .enum-told .given .1))
 
 suite-steps-requires : tie.Need-suite-steps-requires
 suite-steps-requires c κs = search needs
@@ -43,7 +42,7 @@ with-suites-requires c κs =
     let p = c .before .before .before .before .before .before .before in
     let q = p .before .before in
     let r = q .before .before .before in
-    (r .pre, subst (FirstLies (length (r .args .body .now))) (sym (q .read .ensures) ∙ p .frame .given .1) (first-lies (r .args .body .now)))
+    (r .pre, first-lies (r .args .body .now) (sym (q .read .ensures) ∙ ap isFirst (p .frame .given .1)))
 
 returns-2 : tie.Need-returns-2
 unfolding steps
@@ -52,7 +51,7 @@ returns-2 c =
     let q = p .before .before in
     let r = q .before .before .before .before in
     let s = r .before .before in
-    c .refused2 .ensures ∙ rw (sym (s .read .ensures) ∙ r .frame .given .1, sym (q .suite-steps .ensures) ∙ ap suitesTold (p .suited .given .1))
+    c .refused2 .ensures ∙ rw (sym (s .read .ensures) ∙ ap isFirst (r .frame .given .1), sym (q .suite-steps .ensures) ∙ ap suitesTold (p .suited .given .1))
 
 returns-3 : tie.Need-returns-3
 unfolding steps withSuites withKey
@@ -61,7 +60,7 @@ returns-3 c =
     let q = p .before .before in
     let r = q .before .before .before .before in
     let s = r .before .before in
-    c .with-suites .ensures ∙ rw (sym (s .read .ensures) ∙ r .frame .given .1, sym (q .suite-steps .ensures) ∙ ap suitesTold (p .suited2 .given .1))
+    c .with-suites .ensures ∙ rw (sym (s .read .ensures) ∙ ap isFirst (r .frame .given .1), sym (q .suite-steps .ensures) ∙ ap suitesTold (p .suited2 .given .1))
 
 pub decide-spec : {M : Type 1} → statement M
 decide-spec =

@@ -1,7 +1,8 @@
 use mathlib.Core.Path.{_∙_}
 use borrow.Author.Tests.{not-true, not-false}
+use Rattle.frames.specs.Contents.{content}
 use Rattle.rules.specs.Told.{withKey}
-use Rattle.verdicts.proofs.Steps.{pmkid-refused, pmkid-passed}
+use Rattle.verdicts.proofs.Steps.{pmkid-refused, pmkid-chosen}
 use borrow.Author.Needs.{needs}
 use Rattle.verdicts.proofs.first.with_key.Statement.{statement}
 use Rattle.verdicts.proofs.first.with_key.Tie as tie
@@ -24,8 +25,8 @@ refused-requires c κs = search needs
 returns : tie.Need-returns
 unfolding withKey
 returns c =
-    let p = c .before .before .before in
-    c .refused .ensures ∙ rw (pmkid-refused (p .pmkid-step .result) (p .pmkid-step .ensures) (not-true _ (c .before .if1 .taken)))
+    let a = c .before .before .before .before .before .before .before .before .before .before .args in
+    c .refused .ensures ∙ rw (pmkid-refused (a .akm) (a .file .now) (a .brought .reading) (content (a .body .now) (a .facts .rsne .pmkids)) (c .before .before .before .pmkid-step .ensures) (not-true _ (c .before .if1 .taken)))
 
 refused-requires-2 : tie.Need-refused-requires-2
 refused-requires-2 c κs = search needs
@@ -33,9 +34,8 @@ refused-requires-2 c κs = search needs
 returns-2 : tie.Need-returns-2
 unfolding withKey
 returns-2 c =
-    let p = c .before .before in
-    let q = p .before .before in
-    c .refused2 .ensures ∙ rw (pmkid-passed (q .pmkid-step .result) (q .pmkid-step .ensures) (not-false _ (p .if1 .left)), c .before .if2 .taken)
+    let a = c .before .before .before .before .before .before .before .before .before .before .before .args in
+    c .refused2 .ensures ∙ rw (pmkid-chosen (a .akm) (a .file .now) (a .brought .reading) (content (a .body .now) (a .facts .rsne .pmkids)) (c .before .before .before .before .pmkid-step .ensures) (not-false _ (c .before .before .if1 .left)) .here, c .before .if2 .taken)
 
 lifetime-of-requires : tie.Need-lifetime-of-requires
 lifetime-of-requires c κs = search needs
@@ -43,10 +43,9 @@ lifetime-of-requires c κs = search needs
 returns-3 : tie.Need-returns-3
 unfolding withKey
 returns-3 c =
-    let p = c .before .before .before in
-    let q = p .before in
-    let r = q .before .before in
-    rw (pmkid-passed (r .pmkid-step .result) (r .pmkid-step .ensures) (not-false _ (q .if1 .left)), p .if2 .left, c .lifetime-of .ensures)
+    let a = c .before .before .before .before .before .before .before .before .before .before .before .before .before .args in
+    let v = pmkid-chosen (a .akm) (a .file .now) (a .brought .reading) (content (a .body .now) (a .facts .rsne .pmkids)) (c .before .before .before .before .before .before .pmkid-step .ensures) (not-false _ (c .before .before .before .before .if1 .left)) in
+    rw (v .here, c .before .before .before .if2 .left, c .lifetime-of .ensures, v .cached, v .octets)
 
 pub with-key-spec : {M : Type 1} → statement M
 with-key-spec =

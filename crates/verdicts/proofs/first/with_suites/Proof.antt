@@ -30,17 +30,11 @@ with-key-requires c κs = search needs
 
 returns : tie.Need-returns
 unfolding withSuites
-returns c =
-    let p = c .before .before in
-    let q = p .before .before in
-    c .refused .ensures ∙ rw (sym (q .key-steps .ensures) ∙ ap keyTold (p .keyed .given .1))
+returns c = c .refused .ensures ∙ rw (sym (c .before .before .before .before .key-steps .ensures) ∙ ap keyTold (c .before .before .keyed .given .1))
 
 returns-2 : tie.Need-returns-2
 unfolding withSuites
-returns-2 c =
-    let p = c .before .before in
-    let q = p .before .before in
-    c .with-key .ensures ∙ rw (sym (q .key-steps .ensures) ∙ ap keyTold (p .keyed2 .given .1))
+returns-2 c = c .with-key .ensures ∙ rw (sym (c .before .before .before .before .key-steps .ensures) ∙ ap keyTold (c .before .before .keyed2 .given .1))
 
 pub with-suites-spec : {M : Type 1} → statement M
 with-suites-spec =

@@ -1,0 +1,170 @@
+// What the radio chip needs of a body: the key of a first frame to check, the MIC zeroed for its input, and the MIC set.
+ghost use mathlib.Core.Path.{_≡_};
+ghost use lib.ListN.{length};
+ghost use Rattle.elements.specs.Scan.{scanOf};
+ghost use Rattle.elements.specs.Within.{Lies, Ordered};
+ghost use Rattle.suites.specs.Tables.{groupOf};
+ghost use Rattle.frames.specs.Contents.{content};
+ghost use Rattle.chip.specs.Chip.{keyWith, keyPart, micAt, micScanned, micIn, micNumber, zeroAnswer, zeroed, setAnswer, setOctets};
+use elements::Opened;
+use elements::PASN;
+use elements::Part;
+use elements::Scan;
+use elements::Times;
+use frames::first;
+use frames::first::First;
+use suites::GroupEntry;
+
+// The empty part at place 0.
+const NOWHERE: Part = Part { start: 0, end: 0 };
+
+// The place of a key, if its group is in the table and it is one of that group.
+fn key_of(body: &[u8], group: u16, key: Part) -> Part
+    requires { ⌜ Lies 0 (length (now body)) key ⌝ }
+    ensures { λ r. ⌜ r ≡ keyWith (now (body .entry)) key (groupOf group) ⌝ }
+{
+    let entry = suites::group_of(group);
+    let GroupEntry::In(group) = entry else {
+        return NOWHERE;
+    };
+    let start = key.start;
+    let end = key.end;
+    if suites::is_key_of(group, &body[start..end]) {
+        return key;
+    }
+    NOWHERE
+}
+
+// The place of the key that a first frame shows, or the empty part at place 0.
+pub fn key_part(body: &[u8]) -> Part
+    ensures { λ r. ⌜ r ≡ keyPart (now (body .entry)) ⌝ }
+{
+    let opened = elements::open_body(body);
+    let Opened::Body(header) = opened else {
+        return NOWHERE;
+    };
+    if header.algorithm != PASN {
+        return NOWHERE;
+    }
+    if header.transaction != 1 {
+        return NOWHERE;
+    }
+    let frame = first::read(body);
+    let First::Is(facts) = frame else {
+        return NOWHERE;
+    };
+    let key = facts.key;
+    key_of(body, facts.group, key)
+}
+
+pub fn show_key(body: &[u8]) -> &[u8]
+    ensures { λ r. ⌜ now r ≡ content (now (body .entry)) (keyPart (now (body .entry))) ⌝ }
+{
+    let part = key_part(body);
+    let start = part.start;
+    let end = part.end;
+    &body[start..end]
+}
+
+// The place of the MIC in a body whose MIC can be set or zeroed.
+pub enum MicPlace {
+    At(Part),
+    Nowhere,
+}
+
+fn mic_at(mic: Times) -> MicPlace
+    requires { ⌜ Ordered mic ⌝ }
+    ensures { λ r. ⌜ r ≡ micAt mic ⌝ }
+{
+    let Times::One(p) = mic else {
+        return MicPlace::Nowhere;
+    };
+    if suites::is_mic_length(p.end - p.start) {
+        return MicPlace::At(p);
+    }
+    MicPlace::Nowhere
+}
+
+fn mic_scanned(body: &[u8]) -> MicPlace
+    ensures { λ r. ⌜ r ≡ micScanned (scanOf (now (body .entry))) ⌝ }
+{
+    let scan = elements::scan_body(body);
+    let Scan::Walked(places) = scan else {
+        return MicPlace::Nowhere;
+    };
+    let mic = places.mic;
+    mic_at(mic)
+}
+
+fn mic_in(body: &[u8]) -> MicPlace
+    ensures { λ r. ⌜ r ≡ micIn (now (body .entry)) ⌝ }
+{
+    let opened = elements::open_body(body);
+    let Opened::Body(header) = opened else {
+        return MicPlace::Nowhere;
+    };
+    if header.algorithm != PASN {
+        return MicPlace::Nowhere;
+    }
+    if header.transaction == 2 {
+        return mic_scanned(body);
+    }
+    if header.transaction == 3 {
+        return mic_scanned(body);
+    }
+    MicPlace::Nowhere
+}
+
+// What setting or zeroing a MIC answers.
+pub enum MicAnswer {
+    Done,
+    BufferTooShort,
+    NoMic,
+}
+
+// The answer's number in document 01.
+pub fn mic_number(answer: MicAnswer) -> u8
+    ensures { λ r. ⌜ r ≡ micNumber answer ⌝ }
+{
+    match answer {
+        MicAnswer::Done => 19,
+        MicAnswer::BufferTooShort => 2,
+        MicAnswer::NoMic => 20,
+    }
+}
+
+// Copies a body into a second buffer, its MIC zeroed.
+pub fn zero_mic(body: &[u8], out: &mut [u8]) -> MicAnswer
+    ensures answers { λ r. ⌜ r ≡ zeroAnswer (now (body .entry)) (length (now (out .entry))) ⌝ }
+    ensures leaves { λ _. ⌜ now (out .exit) ≡ zeroed (now (body .entry)) (now (out .entry)) ⌝ }
+{
+    let place = mic_in(body);
+    let MicPlace::At(mic) = place else {
+        return MicAnswer::NoMic;
+    };
+    if out.len() < body.len() {
+        return MicAnswer::BufferTooShort;
+    }
+    let start = mic.start;
+    let end = mic.end;
+    octets::copy_in(out, body);
+    octets::zero(&mut out[start..], end - start);
+    MicAnswer::Done
+}
+
+pub fn set_mic(body: &mut [u8], mic: &[u8]) -> MicAnswer
+    ensures answers { λ r. ⌜ r ≡ setAnswer (now (body .entry)) (now (mic .entry)) ⌝ }
+    ensures leaves { λ _. ⌜ now (body .exit) ≡ setOctets (now (body .entry)) (now (mic .entry)) ⌝ }
+{
+    let place = mic_in(body);
+    let MicPlace::At(at) = place else {
+        return MicAnswer::NoMic;
+    };
+    let start = at.start;
+    let end = at.end;
+    if end - start != mic.len() {
+        return MicAnswer::NoMic;
+    }
+    octets::copy_in(&mut body[start..], mic);
+    MicAnswer::Done
+}

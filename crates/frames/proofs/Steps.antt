@@ -1,13 +1,18 @@
 -- What a step was given, by what it found.
 use mathlib.Core.Path.{_≡_, ap}
+use mathlib.Core.List.{List}
 use mathlib.Core.Option.{some, Option·none-ne-some, Option·some-injective}
 use Prim.Native.Nat.{ℕ}
+use lib.ListN.{length}
 use Rattle.units.specs.declared.Seconds.{Seconds}
 use Rattle.elements.specs.declared.Part.{Part}
 use Rattle.elements.specs.declared.Places.{Places}
 use Rattle.elements.specs.declared.Scan.{Scan}
 use Rattle.elements.specs.declared.Times.{Times}
 use Rattle.elements.specs.declared.Times.the-variants.{None, One, More}
+use Rattle.elements.specs.Scan.{scanOf}
+use Rattle.elements.specs.Within.{Within}
+use Rattle.elements.proofs.Scanning.{within}
 use Rattle.layouts.specs.declared.parameters.Offer.{Offer}
 use Rattle.layouts.specs.declared.parameters.Parameters.{Parameters}
 use Rattle.layouts.specs.declared.parameters.Reading as parameters
@@ -16,9 +21,12 @@ use Rattle.layouts.specs.declared.rsne.Rsne.{Rsne}
 use Rattle.layouts.specs.declared.timeout.Timeout.{Timeout}
 use Rattle.frames.specs.Contents.{isWalked, once, isRsne, isLifetime, isParameters, isKey}
 
-pub walked-to : (scan : Scan) {places : Places} → isWalked scan ≡ some places → scan ≡ Scan.Walked places
+walked-to : (scan : Scan) {places : Places} → isWalked scan ≡ some places → scan ≡ Scan.Walked places
 walked-to (Scan.Walked p) e = ap Scan.Walked (Option·some-injective _ _ e)
 walked-to (Scan.Failed place) e = absurd (Option·none-ne-some _ e)
+
+pub walked-lies : (body : List ℕ) {places : Places} → isWalked (scanOf body) ≡ some places → Within (length body) places
+walked-lies body {places} e = within body places (walked-to (scanOf body) e)
 
 pub once-at : (t : Times) {p : Part} → once t ≡ some p → t ≡ One p
 once-at None e = absurd (Option·none-ne-some _ e)

@@ -14,7 +14,6 @@ use Rattle.elements.specs.declared.Places.{Places}
 use Rattle.elements.specs.declared.Times.the-variants.{None, One}
 use Rattle.elements.specs.Scan.{scanOf}
 use Rattle.elements.specs.Within.{Lies}
-use Rattle.elements.proofs.Scanning.{within}
 use Rattle.layouts.specs.declared.parameters.Side.the-variants.{Station}
 use Rattle.layouts.specs.declared.rsne.Rsne.{Rsne}
 use Rattle.layouts.specs.Parameters.{parametersOf}
@@ -28,7 +27,7 @@ use Rattle.frames.specs.First.{lifetimeAt, isWrapped, firstOf, FactsLie}
 use Rattle.frames.specs.ByElement.{rsneIn, lifetimeIn, offeredIn, wrappedIn}
 use Rattle.frames.proofs.Chain.{found, nothing, apart}
 use Rattle.frames.proofs.Inner.{rsne-lies, key-lies}
-use Rattle.frames.proofs.Steps.{walked-to, once-at, rsne-read, lifetime-read, parameters-read, key-offered}
+use Rattle.frames.proofs.Steps.{walked-lies, once-at, rsne-read, lifetime-read, parameters-read, key-offered}
 
 -- the steps after the walk
 pub record FirstSteps (body : List ℕ) (places : Places) (facts : Facts) : Type 0 where
@@ -110,7 +109,7 @@ unfolding firstOf
 first-lies body {facts} e =
     found (isWalked (scanOf body)) e λ places walked rest.
     let s = first-steps body walked e in
-    let w = within body places (walked-to (scanOf body) walked) in
+    let w = walked-lies body walked in
     record {
       pmkids =
           found (once (places .rsne)) (s .rsne) λ at one e.

@@ -9,7 +9,6 @@ use Rattle.elements.specs.declared.Part.{Part}
 use Rattle.elements.specs.declared.Places.{Places}
 use Rattle.elements.specs.Scan.{scanOf}
 use Rattle.elements.specs.Within.{Lies}
-use Rattle.elements.proofs.Scanning.{within}
 use Rattle.layouts.specs.declared.parameters.Side.the-variants.{Station}
 use Rattle.layouts.specs.Parameters.{parametersOf}
 use Rattle.frames.specs.Contents.{content, extended, holds, isWalked, once, never, isParameters, noComeback, noKey}
@@ -17,7 +16,7 @@ use Rattle.frames.specs.Third.{thirdOf}
 use Rattle.frames.specs.ByElement.{quietIn, micIn}
 use Rattle.frames.proofs.Chain.{found, nothing, apart}
 use Rattle.frames.proofs.Otherwise.{one-lies}
-use Rattle.frames.proofs.Steps.{walked-to, once-at}
+use Rattle.frames.proofs.Steps.{walked-lies, once-at}
 
 -- the steps after the walk
 pub record ThirdSteps (body : List ℕ) (n : ℕ) (places : Places) (mic : Part) : Type 0 where
@@ -78,4 +77,4 @@ third-lies body n e =
     found (once (places .mic)) (third-steps body n walked e .told) λ at one e.
     found (holds (eqb (at .end - at .start) n)) e λ z long told.
     subst (Lies 0 (length body)) (Option·some-injective _ _ told)
-    (one-lies (once-at (places .mic) one) (within body places (walked-to (scanOf body) walked) .mic))
+    (one-lies (once-at (places .mic) one) (walked-lies body walked .mic))

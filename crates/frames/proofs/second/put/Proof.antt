@@ -24,7 +24,7 @@ abbrev start : tie.After-put → tie.Start
 start c = c .before .before .before .before .before .before
 
 told-1 : (c : tie.After-put) → c .put .result ≡ headerSize
-told-1 c = c .put .ensures .tells ∙ length-header _ 2 0
+told-1 c = c .put .ensures .tells ∙ length-header _ _ _
 
 room-1 : (c : tie.After-put) → Room (c .put .ensures) (length (start c .args .pmkids .now) + rsneSize)
 room-1 c = wrote-room (c .put .ensures) _ (omega (arith, start c .pre, told-1 c))
@@ -55,7 +55,7 @@ abbrev timeout : tie.After-put4 → tie.After-put3
 timeout c = c .before .before .before .before .before
 
 told-4 : (c : tie.After-put4) → c .put4 .result ≡ length (start (header (rsne (timeout c))) .args .key .now) + parametersSize
-told-4 c = c .put4 .ensures .tells ∙ length-with-key AccessPoint 0 _ _
+told-4 c = c .put4 .ensures .tells ∙ length-with-key AccessPoint _ _ _
 
 room-4 : (c : tie.After-put4)
     → Room (wrote-more (wrote-more (wrote-more (header (rsne (timeout c)) .put .ensures) (rsne (timeout c) .put2 .ensures)) (timeout c .put3 .ensures)) (c .put4 .ensures))

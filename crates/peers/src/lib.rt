@@ -34,7 +34,7 @@ pub struct Table {
     pub latest: Tu,
 }
 
-// What a search finds of an address: the place of its live record, which only is-place the table that was searched;
+// What a search finds of an address: the place of its live record, which only indexes the table that was searched;
 // or no live record, with room for one, or with sixteen of others.
 pub enum Found {
     At(usize),

@@ -83,11 +83,6 @@ pub the-akm : asked (one 7 6 100) (id 7 ∷ []) 6 99 ≡ Choice.Chosen 0 (record
 unfolding choiceOf recordsOf le octets
 the-akm = refl
 
--- cached under AKM 6, and asked for AKM 8
-pub another-akm : asked (one 7 6 100) (id 7 ∷ []) 8 99 ≡ Choice.Nothing
-unfolding choiceOf recordsOf le octets
-another-akm = refl
-
 pub end-now : asked (one 7 6 100) (id 7 ∷ []) 6 100 ≡ Choice.Nothing
 unfolding choiceOf recordsOf le octets
 end-now = refl

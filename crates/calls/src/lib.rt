@@ -1,108 +1,24 @@
-// A call before a table comes into it: its checks, and what its body gets by what the search found of the peer.
+// What a checked call gets by its body, and by what the search found of the peer. No table stands in it.
 ghost use mathlib.Core.Path.{_≡_};
 ghost use mathlib.Core.List.{[]};
 ghost use Prim.Native.Nat.{_^_, _≤_};
 ghost use lib.ListN.{length};
 ghost use Rattle.rules.specs.declared.Answer.{Answer};
-ghost use Rattle.rules.specs.OnePeer.{clockFits, settingsFit, isGroupAddress, checks, isInstalled, waits, goneIf, firstFrame, thirdFrame};
+ghost use Rattle.rules.specs.OnePeer.{isInstalled, waits, goneIf, firstFrame, thirdFrame};
 ghost use Rattle.rules.specs.Told.{callOf, Ready, Gets, Decides};
-ghost use Rattle.calls.specs.Seen.{failure, askedOf, seen, isFull, BodyGets};
+ghost use Rattle.calls.specs.Seen.{seen, isFull, BodyGets};
 use elements::Opened;
 use elements::PASN;
-use frames::second::LONGEST;
 use peers::Found;
 use peers::Peer;
 use peers::Phase;
 use rules::Answer;
 use rules::Brought;
 use rules::Leaves;
-use rules::Settings;
 use rules::Verdict;
 use units::Tu;
 
-// The reply buffer has room for the longest second frame.
-const SMALLEST_BUFFER: usize = LONGEST;
-
-fn clock_fits(latest: Tu, reading: Tu) -> bool
-    ensures { λ r. ⌜ r ≡ clockFits latest reading ⌝ }
-{
-    if latest.0 <= reading.0 {
-        return units::in_clock(reading);
-    }
-    false
-}
-
-fn settings_fit(s: Settings) -> bool
-    ensures { λ r. ⌜ r ≡ settingsFit s ⌝ }
-{
-    let lifetime = s.lifetime;
-    let deadline = s.deadline;
-    if 0 < lifetime.0 {
-        if lifetime.0 <= 86400 {
-            if 0 < deadline.0 {
-                return deadline.0 <= 10000;
-            }
-        }
-    }
-    false
-}
-
-fn is_group_address(address: [u8; 6]) -> bool
-    ensures { λ r. ⌜ r ≡ isGroupAddress address ⌝ }
-{
-    address[0] % 2 == 1
-}
-
-pub enum Checked {
-    Passed,
-    Failed(Answer),
-}
-
-// The checks 1 to 5, before the records and the frame are looked at.
-pub fn check_call(latest: Tu, brought: Brought, file: &[u8], room: usize) -> Checked
-    ensures { λ r. ⌜ failure r ≡ checks latest brought (now (file .entry)) room ⌝ }
-{
-    let settings = brought.settings;
-    let address = brought.address;
-    let reading = brought.reading;
-    if !clock_fits(latest, reading) {
-        return Checked::Failed(Answer::ClockOut);
-    }
-    if room < SMALLEST_BUFFER {
-        return Checked::Failed(Answer::BufferShort);
-    }
-    if !settings_fit(settings) {
-        return Checked::Failed(Answer::SettingsOut);
-    }
-    if is_group_address(address) {
-        return Checked::Failed(Answer::GroupAddress);
-    }
-    if !cache::is_well_formed(file) {
-        return Checked::Failed(Answer::CacheIll);
-    }
-    Checked::Passed
-}
-
-// What a removal and a look-up are checked for.
-pub enum Asked {
-    Passed,
-    ClockOut,
-    GroupAddress,
-}
-
-pub fn check_address(latest: Tu, address: [u8; 6], reading: Tu) -> Asked
-    ensures { λ r. ⌜ r ≡ askedOf latest reading address ⌝ }
-{
-    if !clock_fits(latest, reading) {
-        return Asked::ClockOut;
-    }
-    if is_group_address(address) {
-        return Asked::GroupAddress;
-    }
-    Asked::Passed
-}
-
-// From here on `found` is what the search answered of this peer, and `peer` the record at its place, or a vacant one without a place.
+// `found` is what the search answered of this peer, and `peer` the record at its place, or a vacant one without a place.
 fn is_full(found: Found) -> bool
     ensures { λ r. ⌜ r ≡ isFull found ⌝ }
 {
@@ -154,7 +70,7 @@ fn on_first(
     }
     let full = is_full(found);
     let waiting = is_waiting(found, peer);
-    verdicts::first::answer(brought, file, key, body, algorithm, full, waiting, reply)
+    opening::answer(brought, file, key, body, algorithm, full, waiting, reply)
 }
 
 fn on_third(found: Found, peer: Peer, reading: Tu, mic: &[u8], body: &[u8], status: u16) -> Verdict
@@ -164,7 +80,7 @@ fn on_third(found: Found, peer: Peer, reading: Tu, mic: &[u8], body: &[u8], stat
     let Found::At(_) = found else {
         return rules::silent(Answer::NoExchange, Leaves::Same);
     };
-    verdicts::third::answer(peer, reading, mic, body, status)
+    closing::answer(peer, reading, mic, body, status)
 }
 
 // Another algorithm than PASN ends an exchange that waits.

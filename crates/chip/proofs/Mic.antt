@@ -21,10 +21,9 @@ use Rattle.elements.specs.Walk.{walkBody}
 use Rattle.elements.specs.Within.{Lies}
 use Rattle.elements.proofs.Unread.{SameBut, Inside, SomeOf, InsideIf, SameRead, same-read, mic-inside}
 use Rattle.suites.specs.Tables.{isMicLength}
-use Rattle.chip.specs.declared.MicAnswer.{MicAnswer}
 use Rattle.chip.specs.declared.MicPlace.{MicPlace}
 use Rattle.chip.specs.declared.MicPlace.the-variants.{At, Nowhere}
-use Rattle.chip.specs.Chip.{micAt, micScanned, micOpened, micIn, withMic, zeroAnswerAt, zeroAnswer, zeroedAt, zeroed, setAt, setOctets}
+use Rattle.chip.specs.Chip.{micAt, micScanned, micOpened, micIn, withMic, zeroNumberAt, zeroNumber, zeroedAt, zeroed, setAt, setOctets}
 use Rattle.chip.proofs.Laws.{mic-lies}
 
 abbrev MicInside : List ℕ → MicPlace → Type 0
@@ -130,9 +129,9 @@ module _ (body m : List ℕ) where
   pub set-keeps-place : micIn (setOctets body m) ≡ micIn body
   set-keeps-place = same-mic set-keeps-body
 
-  pub zero-answer-after-set : (k : ℕ) → zeroAnswer (setOctets body m) k ≡ zeroAnswer body k
-  unfolding zeroAnswer
-  zero-answer-after-set k = ap₂ (λ (n : ℕ) (x : MicPlace). zeroAnswerAt n k x) set-keeps-length set-keeps-place
+  pub zero-number-after-set : (k : ℕ) → zeroNumber (setOctets body m) k ≡ zeroNumber body k
+  unfolding zeroNumber
+  zero-number-after-set k = ap₂ (λ (n : ℕ) (x : MicPlace). zeroNumberAt n k x) set-keeps-length set-keeps-place
 
   pub zero-after-set : (out : List ℕ) → zeroed (setOctets body m) out ≡ zeroed body out
   unfolding zeroed
@@ -160,19 +159,19 @@ set-zeros body p at =
       append-nil,
     )
 
-pub zero-keeps-walk : (body out : List ℕ) → zeroAnswer body (length out) ≡ MicAnswer.Done → walkBody (take (length body) (zeroed body out)) ≡ walkBody body
-unfolding zeroAnswer zeroed
+pub zero-keeps-walk : (body out : List ℕ) → zeroNumber body (length out) ≡ 19 → walkBody (take (length body) (zeroed body out)) ≡ walkBody body
+unfolding zeroNumber zeroed
 zero-keeps-walk body out = go (micIn body) refl
   where
-    fits : (p : Part) → micIn body ≡ At p → (b : Bool) → (if b then MicAnswer.BufferTooShort else MicAnswer.Done) ≡ MicAnswer.Done
+    fits : (p : Part) → micIn body ≡ At p → (b : Bool) → _≡_ {A = ℕ} (if b then 2 else 19) 19
         → walkBody (take (length body) (if b then out else withMic body p (replicate (p .end - p .start) 0) ++ drop (length body) out)) ≡ walkBody body
-    fits p at true q = let z : _≡_ {A = ℕ} 0 1 = cc in absurd (omega arith)
+    fits p at true q = absurd (omega (arith, q))
     fits p at false q =
         let zeros = replicate {A = ℕ} (p .end - p .start) 0 in
         let e = zeros-long p in
         ap walkBody (take-at (withMic body p zeros) (drop (length body) out) (length body) (same-length body zeros p at e)) ∙ sym (same-body body zeros p at e .walks)
 
-    go : (x : MicPlace) → micIn body ≡ x → zeroAnswerAt (length body) (length out) x ≡ MicAnswer.Done
+    go : (x : MicPlace) → micIn body ≡ x → zeroNumberAt (length body) (length out) x ≡ 19
         → walkBody (take (length body) (zeroedAt body out x)) ≡ walkBody body
     go (At p) at q = fits p at (ltb (length out) (length body)) q
-    go Nowhere at q = let z : _≡_ {A = ℕ} 0 1 = cc in absurd (omega arith)
+    go Nowhere at q = absurd (omega (arith, q))

@@ -1,5 +1,6 @@
 -- What the radio chip needs of a body: the key of a first frame, the MIC zeroed, the MIC set.
 use Prim.Native.Nat.{ℕ, _-_}
+use mathlib.Core.Path.{_≡_}
 use mathlib.Core.Bool.{_&&_, _||_}
 use mathlib.Core.List.{List, _++_}
 use mathlib.Core.Option.{Option, none, some}
@@ -72,13 +73,17 @@ micNumber MicAnswer.NoMic = 20
 abbrev pub withMic : List ℕ → Part → List ℕ → List ℕ
 withMic body p mic = take (p .start) body ++ mic ++ drop (p .end) body
 
--- Zeroing into a second buffer, which keeps its octets past the body's length.
-abbrev pub zeroAnswerAt : ℕ → ℕ → MicPlace → MicAnswer
-zeroAnswerAt body out Nowhere = MicAnswer.NoMic
-zeroAnswerAt body out (At p) = if ltb out body then MicAnswer.BufferTooShort else MicAnswer.Done
+-- What showing a key promises: its place.
+abbrev pub ShowsKey : List ℕ → Part → Type 0
+ShowsKey body r = r ≡ keyPart body
 
-unfoldable pub zeroAnswer : List ℕ → ℕ → MicAnswer
-zeroAnswer body out = zeroAnswerAt (length body) out (micIn body)
+-- Zeroing into a second buffer, which keeps its octets past the body's length.
+abbrev pub zeroNumberAt : ℕ → ℕ → MicPlace → ℕ
+zeroNumberAt body room Nowhere = 20
+zeroNumberAt body room (At p) = if ltb room body then 2 else 19
+
+unfoldable pub zeroNumber : List ℕ → ℕ → ℕ
+zeroNumber body room = zeroNumberAt (length body) room (micIn body)
 
 abbrev pub zeroedAt : List ℕ → List ℕ → MicPlace → List ℕ
 zeroedAt body out Nowhere = out
@@ -89,13 +94,18 @@ zeroedAt body out (At p) =
 unfoldable pub zeroed : List ℕ → List ℕ → List ℕ
 zeroed body out = zeroedAt body out (micIn body)
 
--- Setting, where the MIC to set has that length too.
-abbrev pub setAnswerAt : ℕ → MicPlace → MicAnswer
-setAnswerAt mic Nowhere = MicAnswer.NoMic
-setAnswerAt mic (At p) = if eqb (p .end - p .start) mic then MicAnswer.Done else MicAnswer.NoMic
+-- What zeroing promises: the answer's number, and each octet of the buffer.
+pub record ZeroesMic (body before : List ℕ) (answer : MicAnswer) (after : List ℕ) : Type 0 where
+  pub number : micNumber answer ≡ zeroNumber body (length before)
+  pub octets : after ≡ zeroed body before
 
-unfoldable pub setAnswer : List ℕ → List ℕ → MicAnswer
-setAnswer body mic = setAnswerAt (length mic) (micIn body)
+-- Setting, where the MIC to set has that length too.
+abbrev pub setNumberAt : ℕ → MicPlace → ℕ
+setNumberAt mic Nowhere = 20
+setNumberAt mic (At p) = if eqb (p .end - p .start) mic then 19 else 20
+
+unfoldable pub setNumber : List ℕ → List ℕ → ℕ
+setNumber body mic = setNumberAt (length mic) (micIn body)
 
 abbrev pub setAt : List ℕ → List ℕ → MicPlace → List ℕ
 setAt body mic Nowhere = body
@@ -103,3 +113,8 @@ setAt body mic (At p) = if eqb (p .end - p .start) (length mic) then withMic bod
 
 unfoldable pub setOctets : List ℕ → List ℕ → List ℕ
 setOctets body mic = setAt body mic (micIn body)
+
+-- What setting promises: the answer's number, and each octet of the body.
+pub record SetsMic (before mic : List ℕ) (answer : MicAnswer) (after : List ℕ) : Type 0 where
+  pub number : micNumber answer ≡ setNumber before mic
+  pub octets : after ≡ setOctets before mic

@@ -4,8 +4,7 @@ ghost use lib.ListN.{length};
 ghost use Rattle.elements.specs.Scan.{scanOf};
 ghost use Rattle.elements.specs.Within.{Lies, Ordered};
 ghost use Rattle.suites.specs.Tables.{groupOf};
-ghost use Rattle.frames.specs.Contents.{content};
-ghost use Rattle.chip.specs.Chip.{keyWith, keyPart, micAt, micScanned, micIn, micNumber, zeroAnswer, zeroed, setAnswer, setOctets};
+ghost use Rattle.chip.specs.Chip.{keyWith, micAt, micScanned, micIn, micNumber, ShowsKey, ZeroesMic, SetsMic};
 use elements::Opened;
 use elements::PASN;
 use elements::Part;
@@ -36,8 +35,8 @@ fn key_of(body: &[u8], group: u16, key: Part) -> Part
 }
 
 // The place of the key that a first frame shows, or the empty part at place 0.
-pub fn key_part(body: &[u8]) -> Part
-    ensures { λ r. ⌜ r ≡ keyPart (now (body .entry)) ⌝ }
+pub fn show_key(body: &[u8]) -> Part
+    ensures { λ r. ⌜ ShowsKey (now (body .entry)) r ⌝ }
 {
     let opened = elements::open_body(body);
     let Opened::Body(header) = opened else {
@@ -55,15 +54,6 @@ pub fn key_part(body: &[u8]) -> Part
     };
     let key = facts.key;
     key_of(body, facts.group, key)
-}
-
-pub fn show_key(body: &[u8]) -> &[u8]
-    ensures { λ r. ⌜ now r ≡ content (now (body .entry)) (keyPart (now (body .entry))) ⌝ }
-{
-    let part = key_part(body);
-    let start = part.start;
-    let end = part.end;
-    &body[start..end]
 }
 
 // The place of the MIC in a body whose MIC can be set or zeroed.
@@ -135,8 +125,7 @@ pub fn mic_number(answer: MicAnswer) -> u8
 
 // Copies a body into a second buffer, its MIC zeroed.
 pub fn zero_mic(body: &[u8], out: &mut [u8]) -> MicAnswer
-    ensures answers { λ r. ⌜ r ≡ zeroAnswer (now (body .entry)) (length (now (out .entry))) ⌝ }
-    ensures leaves { λ _. ⌜ now (out .exit) ≡ zeroed (now (body .entry)) (now (out .entry)) ⌝ }
+    ensures { λ r. ⌜ ZeroesMic (now (body .entry)) (now (out .entry)) r (now (out .exit)) ⌝ }
 {
     let place = mic_in(body);
     let MicPlace::At(mic) = place else {
@@ -153,8 +142,7 @@ pub fn zero_mic(body: &[u8], out: &mut [u8]) -> MicAnswer
 }
 
 pub fn set_mic(body: &mut [u8], mic: &[u8]) -> MicAnswer
-    ensures answers { λ r. ⌜ r ≡ setAnswer (now (body .entry)) (now (mic .entry)) ⌝ }
-    ensures leaves { λ _. ⌜ now (body .exit) ≡ setOctets (now (body .entry)) (now (mic .entry)) ⌝ }
+    ensures { λ r. ⌜ SetsMic (now (body .entry)) (now (mic .entry)) r (now (body .exit)) ⌝ }
 {
     let place = mic_in(body);
     let MicPlace::At(at) = place else {

@@ -14,6 +14,7 @@ use Rattle.octets.proofs.Logic.{both}
 use Rattle.units.specs.declared.Tu.{Tu}
 use Rattle.units.specs.Units.{inClock}
 use Rattle.chip.specs.declared.MicAnswer.{MicAnswer}
+use Rattle.chip.specs.Chip.{micNumber}
 use Rattle.peers.specs.declared.Peer.{Peer}
 use Rattle.peers.specs.declared.Table.{Table}
 use Rattle.peers.specs.Alike.{Alike}
@@ -23,11 +24,12 @@ use Rattle.peers.proofs.Laws.{alike-later, alike-full}
 use Rattle.rules.specs.declared.Answer.{Answer}
 use Rattle.rules.specs.OnePeer.{Call, answerNumber, isEarly, Left, same, gone, becomes, Outcome, unchanged, clockFits, isGroupAddress, receiveOf, lookUpOf}
 use Rattle.rules.proofs.Checks.{checks-clock}
-use Rattle.platform.specs.declared.LookUp.{LookUp}
+use Rattle.rules.specs.declared.LookUp.{LookUp}
 use Rattle.platform.specs.declared.LookedUp.{LookedUp}
-use Rattle.platform.specs.declared.Removal.{Removal}
+use Rattle.rules.specs.declared.Removal.{Removal}
 use Rattle.platform.specs.declared.Removed.{Removed}
-use Rattle.platform.specs.Promises.{shownAfter, countedAfter, Settles, Dates, ruled, Receives, removalNumber, leftByRemoval, Removes, lookNumber, IsSeen, LooksUp}
+use Rattle.rules.specs.OnePeer.{removalNumber, lookNumber}
+use Rattle.platform.specs.Promises.{shownAfter, countedAfter, Settles, Dates, ruled, Receives, leftByRemoval, Removes, IsSeen, LooksUp}
 use Rattle.demands.specs.Coincide.{Match, Reception, SameReception, SameRemoval, MicOutcome, OutcomesCoincide}
 
 -- Tables that match -----------------------------------------------------------------------------------------------------------------------
@@ -138,6 +140,15 @@ look-numbered LookUp.GroupAddress = refl
 look-numbered LookUp.NoRecord = refl
 look-numbered LookUp.Shown = refl
 
+micBy : ℕ → MicAnswer
+micBy n = if eqb n 19 then MicAnswer.Done else if eqb n 2 then MicAnswer.BufferTooShort else MicAnswer.NoMic
+
+mic-numbered : (a : MicAnswer) → micBy (micNumber a) ≡ a
+unfolding micBy
+mic-numbered MicAnswer.Done = refl
+mic-numbered MicAnswer.BufferTooShort = refl
+mic-numbered MicAnswer.NoMic = refl
+
 module _ (t u : Table) (w : Match t u) (address : List ℕ) (n : Tu) where
   -- at a reading that fits both show the same
   shown-same : clockFits (t .latest) n ≡ true → shows t n address ≡ shows u n address
@@ -194,9 +205,9 @@ outcomes-coincide = record {
   remove = λ address n t u w. removed-same t u w address n;
   look-up = λ address n t u w. looked-same t u w address n;
   show-key = λ body t u w x y a b. a ∙ sym b;
-  zero-mic = λ body before t u w. same-mic;
-  set-mic = λ before mic t u w. same-mic;
+  zero-mic = λ body before t u w x y a b. same-mic (a .number ∙ sym (b .number)) (a .octets ∙ sym (b .octets));
+  set-mic = λ before mic t u w x y a b. same-mic (a .number ∙ sym (b .number)) (a .octets ∙ sym (b .octets));
 }
   where
-    same-mic : {answer : MicAnswer} {buffer : List ℕ} (x y : MicOutcome) → (x .answer ≡ answer) × (x .buffer ≡ buffer) → (y .answer ≡ answer) × (y .buffer ≡ buffer) → x ≡ y
-    same-mic x y a b = ap₂ (λ (r : MicAnswer) (s : List ℕ). record { answer = r; buffer = s }) (a .0 ∙ sym (b .0)) (a .1 ∙ sym (b .1))
+    same-mic : {x y : MicOutcome} → micNumber (x .answer) ≡ micNumber (y .answer) → x .buffer ≡ y .buffer → x ≡ y
+    same-mic n e = ap₂ (λ (r : MicAnswer) (s : List ℕ). record { answer = r; buffer = s }) (by-number micNumber micBy mic-numbered n) e

@@ -2,7 +2,7 @@
 use Prim.Native.Nat.{ℕ}
 use mathlib.Core.Path.{_≡_, refl}
 use mathlib.Core.Bool.{false}
-use mathlib.Core.List.{List, [], _∷_}
+use mathlib.Core.List.{List, [], _∷_, List·Memᴰ·head}
 use mathlib.Core.Option.{none, some}
 use native.Mathlib.Omega.{arith}
 use lib.ListN.{replicate}
@@ -12,8 +12,8 @@ use Rattle.elements.specs.Body.{bodyOf}
 use Rattle.elements.specs.Scan.{scanOf}
 use Rattle.suites.specs.Suite.{suiteAt}
 use Rattle.suites.specs.Tables.{akmOf, cipherOf, groupOf, isKeyOf}
-use Rattle.layouts.specs.Parameters.{parametersOf}
-use Rattle.layouts.specs.Rsne.{rsneOf}
+use Rattle.parameters.specs.Parameters.{parametersOf}
+use Rattle.rsne.specs.Rsne.{rsneOf}
 use Rattle.frames.specs.First.{firstOf}
 use Rattle.frames.specs.Third.{thirdOf}
 use Rattle.cache.specs.File.{isWellFormed, recordsOf}
@@ -24,6 +24,8 @@ use Rattle.rules.specs.OnePeer.{Call, receiveOf}
 use Rattle.rules.specs.Alone.{receive, remove, lookUp, removed, found, aloneGets, aloneAfter}
 use Rattle.demands.specs.Edges.{tu, brings, station, firstBody, thirdBody, mic, shortKey}
 use Rattle.demands.specs.InstalledKey.{Holds}
+use Rattle.demands.specs.Served.{Service}
+use Rattle.demands.proofs.Keeping.{can-be-served}
 
 -- a lifetime of 3,600 s, 3,515,625 TU
 abbrev frame : ℕ → ℕ → List ℕ → Call
@@ -52,6 +54,8 @@ abbrev key : Peer
 key = peer (Installed (tu 3521624))
 
 pub record Worked : Type 0 where
+  -- it is served
+  pub served : Service (receive opens ∷ lookUp station (tu 5500) ∷ receive (closes 5999) ∷ [])
   -- up to the TU before its end
   pub held : Holds (receive opens ∷ lookUp station (tu 5500) ∷ receive (closes 5999) ∷ []) (tu 3521623) key
   -- the same third frame again leaves it
@@ -68,6 +72,8 @@ pub record Worked : Type 0 where
 pub worked : Worked
 unfolding receiveOf isWellFormed recordsOf first bodyOf scanOf firstOf thirdOf rsneOf parametersOf suiteAt le akmOf cipherOf groupOf isKeyOf
 worked = record {
+  served = can-be-served (station ∷ []) (omega arith) _ (List·Memᴰ·head refl, (List·Memᴰ·head refl, (List·Memᴰ·head refl, tt)))
+      (omega arith, omega arith, (omega arith, omega arith, (omega arith, omega arith, tt)));
   held = record {
     before = [];
     first = opens;

@@ -7,10 +7,12 @@ pub mod Order
 pub mod Leaving
 pub mod Telling
 pub mod Keys
-pub mod Exchange
 pub mod EdgesHold
 pub mod CoincideLaws
+pub mod ExportedLaws
 pub mod ReadsBackExact
 pub mod ReadsBackSteps
 pub mod ReadsBackReply
+pub mod Keeping
+pub mod Exchange
 pub mod ShutsOutInputs

@@ -31,7 +31,7 @@ use Rattle.rules.specs.declared.Answer.{Answer}
 use Rattle.rules.specs.declared.Refusal.{Refusal}
 use Rattle.rules.specs.OnePeer.{Call, becomes, Outcome, answerNumber, isEarly, isInstalled, isWaiting, waits, checks, _orElse_, Step, refuse, pass, Passed, acceptance, refusal, firstOutcome, firstFrame, installedPeer, thirdMic, thirdAkm, thirdFrame, onBody, receiveOf}
 use Rattle.rules.proofs.Checks.{checks-early}
-use Rattle.verdicts.proofs.Verdicts.{third-alike}
+use Rattle.closing.proofs.Thirds.{third-alike}
 use Rattle.platform.specs.Promises.{ruled}
 use Rattle.demands.specs.ReadsBack.{FirstFrame, stepped, AcceptsFirst, RefusesFirst, AcceptsThird, AcceptanceIsExact}
 

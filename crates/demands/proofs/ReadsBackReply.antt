@@ -6,17 +6,17 @@ use Prim.Native.Nat.{ℕ}
 use native.Mathlib.Omega.{arith}
 use lib.ListN.{length, take}
 use Rattle.octets.proofs.Parts.{wrote-stands}
-use Rattle.frames.specs.Header.{headerOctets}
-use Rattle.frames.specs.Second.{secondOctets}
-use Rattle.frames.proofs.header.Laws.{length-header, refusal-reads-back}
-use Rattle.frames.proofs.second.ReadBack.{Readable, second-reads-back}
+use Rattle.writers.specs.Header.{headerOctets}
+use Rattle.writers.specs.Second.{secondOctets}
+use Rattle.writers.proofs.header.Laws.{length-header, refusal-reads-back}
+use Rattle.writers.proofs.second.ReadBack.{Readable, second-reads-back}
 use Rattle.peers.specs.declared.Table.{Table}
 use Rattle.peers.specs.View.{full}
 use Rattle.rules.specs.declared.Refusal.{Refusal}
 use Rattle.rules.specs.OnePeer.{Call, Outcome, termsOf, chosenOf, listed}
 use Rattle.rules.proofs.Checks.{checks-pass}
 use Rattle.rules.proofs.Inversion.{passes, status-small}
-use Rattle.verdicts.proofs.Accepting.{fitting}
+use Rattle.opening.proofs.Accepting.{fitting}
 use Rattle.platform.specs.Promises.{ruled}
 use Rattle.demands.specs.ReadsBack.{AcceptsFirst, RefusesFirst, SecondFrame, SixOctets, AReplyReadsBack}
 use Rattle.demands.proofs.ReadsBackExact.{acceptance-is-exact, ruled-accepted, ruled-refused}

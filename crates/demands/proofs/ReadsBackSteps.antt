@@ -14,7 +14,7 @@ use Rattle.suites.specs.declared.GroupEntry.{GroupEntry}
 use Rattle.suites.specs.declared.Suite.the-variants.{Ours}
 use Rattle.suites.specs.Tables.{groups, groupOf}
 use Rattle.suites.proofs.Lookup.{looked-up}
-use Rattle.layouts.specs.declared.rsne.Only.the-variants.{One as Just}
+use Rattle.rsne.specs.declared.Only.the-variants.{One as Just}
 use Rattle.frames.specs.declared.contents.Lifetime.{Lifetime}
 use Rattle.frames.specs.declared.first.Facts.{Facts}
 use Rattle.frames.proofs.first.Laws.{Asks, first-asks}

@@ -10,12 +10,11 @@ use Rattle.octets.specs.Equality.{sameOctets}
 use Rattle.units.specs.declared.Tu.{Tu}
 use Rattle.peers.specs.declared.Peer.{Peer}
 use Rattle.peers.specs.declared.Table.{Table}
-use Rattle.peers.specs.View.{other, shows, others, full}
+use Rattle.peers.specs.View.{other, shows, others, full, dated}
 use Rattle.peers.specs.Promises.{whileLive, Puts}
 use Rattle.peers.proofs.Few.{Few, outside-fewer, few-put, few-room}
 use Rattle.rules.specs.OnePeer.{Left, same, gone, becomes}
 use Rattle.platform.specs.Promises.{Settles}
-use Rattle.platform.proofs.Settling.{dated}
 
 -- a record that a step makes is of its address
 abbrev pub OfAddress : List ℕ → Left → Type 0
@@ -28,13 +27,13 @@ module _ {addresses : List (List ℕ)} {n : Tu} {t r : Table} {a : List ℕ} (fe
   unfolding shows others full
   few-becomes p e s =
       let f : full t n (p .address) ≡ false = ap (full t n) e ∙ few-room w i few in
-      let put : Puts (dated t (r .latest)) p n r = record {
+      let put : Puts (dated t n) p (dated r n) = record {
         kept = λ k. absurd (true≢false (sym k ∙ f));
         shown = λ _ m h b. s .shown m h b ∙ ap (λ (l : List ℕ). if sameOctets l b then whileLive p m else shows t m b) (sym e);
         counted = λ _ m h these. s .counted m h these ∙ ap (λ (l : List ℕ). others t m (l ∷ these) + (if other m these p then 1 else 0)) (sym e);
         latest = refl;
       } in
-      few-put (record { few = w .few }) (subst (λ (b : List ℕ). List·Memᴰ b addresses) (sym e) i) put
+      record { few = few-put {t = dated t n} (record { few = w .few }) (subst (λ (b : List ℕ). List·Memᴰ b addresses) (sym e) i) put .few }
 
   pub few-settles : (left : Left) → OfAddress a left → Settles t a n left r → Few addresses n r
   few-settles same o s = record { few = λ m h these. omega (arith, s .counted m h these, w .few m h these) }

@@ -16,6 +16,7 @@ use Rattle.platform.specs.Promises.{shownAfter, Answers, ruled}
 use Rattle.demands.specs.Edges.{tu, firstBody, thirdBody, station, hears, recordOf, gets}
 use Rattle.demands.specs.ShutsOut.{Responder, Meets, ConstantReply, WritesNothing, RecordsNothing, InstallsAtOnce, ShutsOut}
 use Rattle.octets.proofs.Parts.{wrote-stands}
+use Rattle.demands.proofs.Keeping.{met}
 
 -- a table whose first place has a record, and whose others are vacant
 abbrev holding : Peer → Table
@@ -41,16 +42,16 @@ told = refl
 
 module _ (f : Responder) (meets : Meets f) where
   -- what it gives is what the rules give
-  by-rules : (t : Table) (call : Call) {o : Outcome} → ruled t call ≡ o
-      → Answers t call o (f t call .buffer) (f t call .received)
-  by-rules t call e = subst (λ (o : Outcome). Answers t call o (f t call .buffer) (f t call .received)) e (meets t call)
+  by-rules : (p : Peer) (call : Call) {o : Outcome} → ruled (holding p) call ≡ o
+      → Answers (holding p) call o (f (holding p) call .buffer) (f (holding p) call .received)
+  by-rules p call e = subst (λ (o : Outcome). Answers (holding p) call o (f (holding p) call .buffer) (f (holding p) call .received)) e (meets (holding p) refl call)
 
   first-answered : (cipher : ℕ) → Answers empty (asking cipher) (gets none (asking cipher)) (f empty (asking cipher) .buffer) (f empty (asking cipher) .received)
-  first-answered cipher = by-rules empty (asking cipher) (asked cipher)
+  first-answered cipher = by-rules vacantPeer (asking cipher) (asked cipher)
 
   installs : answerNumber (f (holding waiting) (hears thirdBody) .received .answer) ≡ 15
   unfolding gets
-  installs = ap answerNumber (by-rules (holding waiting) (hears thirdBody) told .answer)
+  installs = ap answerNumber (by-rules waiting (hears thirdBody) told .answer)
 
   accepted : (cipher : ℕ) → answerNumber (gets none (asking cipher) .answer) ≡ 0 → answerNumber (f empty (asking cipher) .received .answer) ≡ 0
   accepted cipher e = ap answerNumber (first-answered cipher .answer) ∙ e
@@ -89,6 +90,7 @@ module _ (f : Responder) (meets : Meets f) where
 pub shuts-out : ShutsOut
 unfolding gets
 shuts-out = record {
+  not-all = met;
   refuses-first-frames = λ f never meets. never empty (asking 4) (accepted f meets 4 refl);
   refuses-third-frames = λ f never meets. never (holding waiting) (hears thirdBody) (installs f meets);
   constant-reply = λ f c meets. not-constant f meets c;

@@ -15,12 +15,13 @@ use Rattle.peers.specs.declared.Table.{Table}
 use Rattle.peers.specs.View.{shows, full}
 use Rattle.peers.proofs.Laws.{shown-is}
 use Rattle.rules.specs.OnePeer.{Call, Left, same, Outcome, isEarly, receiveOf, removeOf, lookUpOf}
-use Rattle.platform.specs.declared.LookUp.{LookUp}
+use Rattle.rules.specs.declared.LookUp.{LookUp}
 use Rattle.platform.specs.declared.LookedUp.{LookedUp}
 use Rattle.platform.specs.declared.Received.{Received}
-use Rattle.platform.specs.declared.Removal.{Removal}
+use Rattle.rules.specs.declared.Removal.{Removal}
 use Rattle.platform.specs.declared.Removed.{Removed}
-use Rattle.platform.specs.Promises.{Settles, Dates, Receives, removalNumber, leftByRemoval, Removes, lookNumber, IsSeen, LooksUp}
+use Rattle.rules.specs.OnePeer.{removalNumber, lookNumber}
+use Rattle.platform.specs.Promises.{Settles, Dates, Receives, leftByRemoval, Removes, IsSeen, LooksUp}
 use Rattle.platform.proofs.Settling.{settles-none}
 use Rattle.rules.specs.Alone.{Ask, receive, remove, lookUp, whose, readingOf, Got, answered, removed, found, Alone, liveAt, outcomeFor, removalFor, lookFor, overwritten, gets, removalLeaves, leaves}
 use Rattle.demands.specs.Served.{given, Allowed, receives, removes, looksUp}

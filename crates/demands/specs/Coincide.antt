@@ -2,11 +2,10 @@
 use mathlib.Core.Path.{_≡_}
 use mathlib.Core.List.{List}
 use Prim.Native.Nat.{ℕ}
-use lib.ListN.{length}
 use Rattle.units.specs.declared.Tu.{Tu}
-use Rattle.frames.specs.Contents.{content}
+use Rattle.elements.specs.declared.Part.{Part}
 use Rattle.chip.specs.declared.MicAnswer.{MicAnswer}
-use Rattle.chip.specs.Chip.{keyPart, zeroAnswer, zeroed, setAnswer, setOctets}
+use Rattle.chip.specs.Chip.{ShowsKey, ZeroesMic, SetsMic}
 use Rattle.peers.specs.declared.Table.{Table}
 use Rattle.peers.specs.Alike.{Alike}
 use Rattle.peers.specs.Promises.{Nobody}
@@ -49,8 +48,6 @@ pub record OutcomesCoincide : Type 0 where
   pub receive : (call : Call) → Coincide (λ t x. Receives t call (x .buffer) (x .received)) SameReception
   pub remove : (address : List ℕ) (reading : Tu) → Coincide (λ t r. Removes t address reading r) SameRemoval
   pub look-up : (address : List ℕ) (reading : Tu) → Coincide {Outcome = LookedUp} (λ t r. LooksUp t address reading r) _≡_
-  pub show-key : (body : List ℕ) → Coincide (λ t key. key ≡ content body (keyPart body)) _≡_
-  pub zero-mic : (body before : List ℕ)
-      → Coincide {Outcome = MicOutcome} (λ t x. (x .answer ≡ zeroAnswer body (length before)) × (x .buffer ≡ zeroed body before)) _≡_
-  pub set-mic : (before mic : List ℕ)
-      → Coincide {Outcome = MicOutcome} (λ t x. (x .answer ≡ setAnswer before mic) × (x .buffer ≡ setOctets before mic)) _≡_
+  pub show-key : (body : List ℕ) → Coincide {Outcome = Part} (λ t key. ShowsKey body key) _≡_
+  pub zero-mic : (body before : List ℕ) → Coincide {Outcome = MicOutcome} (λ t x. ZeroesMic body before (x .answer) (x .buffer)) _≡_
+  pub set-mic : (before mic : List ℕ) → Coincide {Outcome = MicOutcome} (λ t x. SetsMic before mic (x .answer) (x .buffer)) _≡_

@@ -15,14 +15,14 @@ use Rattle.elements.specs.Body.{bodyOf}
 use Rattle.elements.specs.Scan.{scanOf}
 use Rattle.suites.specs.Suite.{suiteAt, suiteOctets}
 use Rattle.suites.specs.Tables.{akmOf, cipherOf, groupOf, isKeyOf}
-use Rattle.layouts.specs.declared.rsne.Reading.{Reading}
+use Rattle.rsne.specs.declared.Reading.{Reading}
 use Rattle.layouts.specs.Mic.{micOctets}
-use Rattle.layouts.specs.Parameters.{parametersOf, parametersOctets}
-use Rattle.layouts.specs.Rsne.{rsneOf, rsneOctets}
+use Rattle.parameters.specs.Parameters.{parametersOf, parametersOctets}
+use Rattle.rsne.specs.Rsne.{rsneOf, rsneOctets}
 use Rattle.layouts.specs.Timeout.{timeoutOf, timeoutOctets}
 use Rattle.frames.specs.First.{firstOf}
-use Rattle.frames.specs.Header.{headerOctets}
-use Rattle.frames.specs.Second.{secondOctets}
+use Rattle.writers.specs.Header.{headerOctets}
+use Rattle.writers.specs.Second.{secondOctets}
 use Rattle.frames.specs.Third.{thirdOf}
 use Rattle.cache.specs.File.{isWellFormed, recordsOf}
 use Rattle.cache.specs.Search.{choiceOf}

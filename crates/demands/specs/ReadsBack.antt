@@ -17,7 +17,7 @@ use Rattle.suites.specs.Tables.{akmOf, isKeyOf}
 use Rattle.frames.specs.declared.first.Facts.{Facts}
 use Rattle.frames.specs.Contents.{content}
 use Rattle.frames.specs.First.{firstOf}
-use Rattle.frames.specs.SecondRead.{secondOf}
+use Rattle.writers.specs.SecondRead.{secondOf}
 use Rattle.frames.specs.Third.{thirdOf}
 use Rattle.peers.specs.declared.Peer.{Peer}
 use Rattle.peers.specs.declared.Phase.the-variants.{Waiting}

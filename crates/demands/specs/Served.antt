@@ -1,5 +1,6 @@
 -- What a host asks of a unit, call by call, and every run that the unit's promises allow.
 use Prim.Native.Nat.{ℕ, _≤_}
+use mathlib.Core.Path.{_≡_}
 use mathlib.Core.List.{List, [], _∷_, List·Memᴰ}
 use mathlib.Core.Option.{Option, none, some}
 use lib.ListN.{length}
@@ -13,11 +14,12 @@ use Rattle.peers.specs.declared.Table.{Table}
 use Rattle.peers.specs.Promises.{Nobody}
 use Rattle.rules.specs.OnePeer.{Call}
 use Rattle.rules.specs.Alone.{Ask, receive, remove, lookUp, whose, readingOf, Got, answered, removed, found}
-use Rattle.platform.specs.declared.LookUp.{LookUp}
+use Rattle.rules.specs.declared.LookUp.{LookUp}
 use Rattle.platform.specs.declared.LookedUp.{LookedUp}
 use Rattle.platform.specs.declared.Received.{Received}
 use Rattle.platform.specs.declared.Removed.{Removed}
-use Rattle.platform.specs.Promises.{Receives, removalNumber, Removes, lookNumber, LooksUp}
+use Rattle.rules.specs.OnePeer.{removalNumber, lookNumber}
+use Rattle.platform.specs.Promises.{Receives, Removes, LooksUp}
 
 -- the record that a look-up gives: one beside 18, else none
 abbrev pub given : LookUp → Peer → Option Peer
@@ -25,6 +27,10 @@ given LookUp.ClockOut p = none
 given LookUp.GroupAddress p = none
 given LookUp.NoRecord p = none
 given LookUp.Shown p = some p
+
+-- a table of sixteen places, as every one is that the operations make
+abbrev pub Sixteen : Table → Type 0
+Sixteen t = length (t .peers) ≡ 16
 
 -- A step of the table that the promises allow.
 pub data Allowed : Table → Ask → Got → Table → Type 0 where
@@ -66,6 +72,16 @@ pub record Served (asks : List Ask) (gots : List Got) (end : Table) : Type 0 whe
   pub start : Table
   pub nobody : Nobody start
   pub run : Runs start asks gots end
+
+-- The promises can be kept: calls of at most sixteen addresses, by a clock that never goes back, are served.
+pub record Service (asks : List Ask) : Type 0 where
+  pub gots : List Got
+  pub end : Table
+  pub served : Served asks gots end
+
+abbrev pub CanBeServed : Type 0
+CanBeServed = (addresses : List (List ℕ)) → length addresses ≤ 16 → (asks : List Ask) → Each (λ (ask : Ask). List·Memᴰ (whose ask) addresses) asks → From zeroTu asks
+    → Service asks
 
 -- an address's own calls, and what they got
 abbrev pub asksOf : List ℕ → List Ask → List Ask

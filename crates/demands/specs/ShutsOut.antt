@@ -10,14 +10,20 @@ use Rattle.peers.specs.View.{shows}
 use Rattle.rules.specs.OnePeer.{Call, answerNumber, isInstalled}
 use Rattle.platform.specs.Promises.{Receives}
 use Rattle.demands.specs.Coincide.{Reception}
+use Rattle.demands.specs.Served.{Sixteen}
 
 -- anything that takes a table and a call
 abbrev pub Responder : Type 0
 Responder = Table → Call → Reception
 
--- it does what receive promises
+-- it does what receive promises, for every table of sixteen places
 abbrev pub Meets : Responder → Type 0
-Meets f = (t : Table) (call : Call) → Receives t call (f t call .buffer) (f t call .received)
+Meets f = (t : Table) → Sixteen t → (call : Call) → Receives t call (f t call .buffer) (f t call .received)
+
+-- there is one: what receive computes
+pub record Met : Type 0 where
+  pub responder : Responder
+  pub meets : Meets responder
 
 abbrev pub Gives : Responder → ℕ → Table → Call → Type 0
 Gives f number t call = answerNumber (f t call .received .answer) ≡ number
@@ -44,6 +50,7 @@ InstallsAtOnce f = (t : Table) (call : Call) → Gives f 0 t call
 
 -- One that refuses all frames is shut out twice over, and so is one that neither writes nor records.
 pub record ShutsOut : Type 0 where
+  pub not-all : Met
   pub refuses-first-frames : (f : Responder) → Never 0 f → ¬ Meets f
   pub refuses-third-frames : (f : Responder) → Never 15 f → ¬ Meets f
   pub constant-reply : (f : Responder) → ConstantReply f → ¬ Meets f

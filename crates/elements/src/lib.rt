@@ -111,20 +111,10 @@ pub struct Reader<'a> {
 }
 
 impl<'a> Reader<'a> {
-    // In front of the elements.
-    pub fn new(body: &'a [u8]) -> Reader<'a>
-        ensures { λ r. ⌜ (r .body ≡ body .entry) × (r .at ≡ 6) ⌝ }
+    pub fn at(body: &'a [u8], at: usize) -> Reader<'a>
+        ensures { λ r. ⌜ (r .body ≡ body .entry) × (r .at ≡ at) ⌝ }
     {
-        Reader { body, at: HEADER }
-    }
-
-    pub fn moved(self, at: usize) -> Reader<'a>
-        ensures { λ r. ⌜ (r .body ≡ self .entry .body) × (r .at ≡ at) ⌝ }
-    {
-        Reader {
-            body: self.body,
-            at,
-        }
+        Reader { body, at }
     }
 
     // What the reader meets at its place.
@@ -139,7 +129,7 @@ impl<'a> Reader<'a> {
 pub fn met_at(body: &[u8], at: usize) -> Met
     ensures { λ r. ⌜ r ≡ metAt (now (body .entry)) at ⌝ }
 {
-    Reader::new(body).moved(at).met()
+    Reader::at(body, at).met()
 }
 
 // The elements that the rules speak of; all others are skipped.

@@ -8,16 +8,16 @@ use Rattle.elements.specs.declared.Part.{Part}
 use Rattle.elements.specs.declared.Times.{Times}
 use Rattle.elements.specs.declared.Times.the-variants.{One}
 use Rattle.elements.specs.Within.{Lies, LiesIf}
-use Rattle.layouts.specs.declared.parameters.Offer.{Offer}
-use Rattle.layouts.specs.declared.parameters.Parameters.{Parameters}
-use Rattle.layouts.specs.declared.parameters.Reading as parameters
-use Rattle.layouts.specs.declared.parameters.Side.{Side}
-use Rattle.layouts.specs.declared.rsne.Reading as rsne
-use Rattle.layouts.specs.declared.rsne.Rsne.{Rsne}
-use Rattle.layouts.specs.Parameters.{parametersOf}
-use Rattle.layouts.specs.Rsne.{rsneOf}
-use Rattle.layouts.proofs.parameters.Laws.{OfferLies, parts-lie}
-use Rattle.layouts.proofs.rsne.Laws.{pmkids-lie}
+use Rattle.parameters.specs.declared.Offer.{Offer}
+use Rattle.parameters.specs.declared.Parameters.{Parameters}
+use Rattle.parameters.specs.declared.Reading as parameters
+use Rattle.parameters.specs.declared.Side.{Side}
+use Rattle.rsne.specs.declared.Reading as rsne
+use Rattle.rsne.specs.declared.Rsne.{Rsne}
+use Rattle.parameters.specs.Parameters.{parametersOf}
+use Rattle.rsne.specs.Rsne.{rsneOf}
+use Rattle.parameters.proofs.Laws.{OfferLies, parts-lie}
+use Rattle.rsne.proofs.Laws.{pmkids-lie}
 use Rattle.frames.specs.Contents.{content, shifted, extended}
 use Rattle.frames.proofs.Otherwise.{one-lies}
 

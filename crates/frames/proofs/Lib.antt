@@ -3,4 +3,3 @@ pub mod Steps
 pub mod Otherwise
 pub mod Inner
 pub mod Vectors
-pub mod Cases

@@ -10,8 +10,8 @@ use Rattle.elements.specs.declared.Times.{Times}
 use Rattle.elements.specs.declared.Times.the-variants.{None, One, More}
 use Rattle.elements.specs.Within.{Lies, LiesIf, Ordered}
 use Rattle.elements.proofs.Times as Times'
-use Rattle.layouts.specs.declared.parameters.Comeback.{Comeback}
-use Rattle.layouts.proofs.parameters.Comeback as Comeback'
+use Rattle.parameters.specs.declared.Comeback.{Comeback}
+use Rattle.parameters.proofs.Comeback as Comeback'
 use Rattle.frames.specs.Contents.{never, noComeback}
 
 -- where the one element of a kind lies

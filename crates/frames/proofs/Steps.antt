@@ -13,11 +13,11 @@ use Rattle.elements.specs.declared.Times.the-variants.{None, One, More}
 use Rattle.elements.specs.Scan.{scanOf}
 use Rattle.elements.specs.Within.{Within}
 use Rattle.elements.proofs.Scanning.{within}
-use Rattle.layouts.specs.declared.parameters.Offer.{Offer}
-use Rattle.layouts.specs.declared.parameters.Parameters.{Parameters}
-use Rattle.layouts.specs.declared.parameters.Reading as parameters
-use Rattle.layouts.specs.declared.rsne.Reading as rsne
-use Rattle.layouts.specs.declared.rsne.Rsne.{Rsne}
+use Rattle.parameters.specs.declared.Offer.{Offer}
+use Rattle.parameters.specs.declared.Parameters.{Parameters}
+use Rattle.parameters.specs.declared.Reading as parameters
+use Rattle.rsne.specs.declared.Reading as rsne
+use Rattle.rsne.specs.declared.Rsne.{Rsne}
 use Rattle.layouts.specs.declared.timeout.Timeout.{Timeout}
 use Rattle.frames.specs.Contents.{isWalked, once, isRsne, isLifetime, isParameters, isKey}
 

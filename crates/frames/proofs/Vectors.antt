@@ -6,9 +6,9 @@ use Rattle.octets.specs.Numbers.{le}
 use Rattle.elements.specs.Scan.{scanOf}
 use Rattle.suites.specs.declared.Suite.the-variants.{Ours}
 use Rattle.suites.specs.Suite.{suiteAt}
-use Rattle.layouts.specs.declared.rsne.Only.the-variants.{One}
-use Rattle.layouts.specs.Parameters.{parametersOf}
-use Rattle.layouts.specs.Rsne.{rsneOf}
+use Rattle.rsne.specs.declared.Only.the-variants.{One}
+use Rattle.parameters.specs.Parameters.{parametersOf}
+use Rattle.rsne.specs.Rsne.{rsneOf}
 use Rattle.layouts.specs.Timeout.{timeoutOf}
 use Rattle.frames.specs.declared.contents.Lifetime.{Lifetime}
 use Rattle.frames.specs.First.{firstOf}

@@ -6,10 +6,10 @@ use lib.Dec.{eqb, ltb}
 use Rattle.octets.specs.Maybe.{_>>=_}
 use Rattle.elements.specs.declared.Part.{Part}
 use Rattle.elements.specs.declared.Times.{Times}
-use Rattle.layouts.specs.declared.parameters.Side.the-variants.{Station}
-use Rattle.layouts.specs.declared.rsne.Rsne.{Rsne}
-use Rattle.layouts.specs.Parameters.{parametersOf}
-use Rattle.layouts.specs.Rsne.{rsneOf}
+use Rattle.parameters.specs.declared.Side.the-variants.{Station}
+use Rattle.rsne.specs.declared.Rsne.{Rsne}
+use Rattle.parameters.specs.Parameters.{parametersOf}
+use Rattle.rsne.specs.Rsne.{rsneOf}
 use Rattle.frames.specs.declared.contents.Lifetime.{Lifetime}
 use Rattle.frames.specs.declared.contents.LifetimeReading.{LifetimeReading}
 use Rattle.frames.specs.declared.first.Offered.{Offered}

@@ -10,12 +10,12 @@ use Rattle.elements.specs.declared.Places.{Places}
 use Rattle.elements.specs.declared.Scan.{Scan}
 use Rattle.elements.specs.declared.Times.{Times}
 use Rattle.elements.specs.declared.Times.the-variants.{None, One, More}
-use Rattle.layouts.specs.declared.parameters.Comeback.{Comeback}
-use Rattle.layouts.specs.declared.parameters.Offer.{Offer}
-use Rattle.layouts.specs.declared.parameters.Parameters.{Parameters}
-use Rattle.layouts.specs.declared.parameters.Reading as parameters
-use Rattle.layouts.specs.declared.rsne.Reading as rsne
-use Rattle.layouts.specs.declared.rsne.Rsne.{Rsne}
+use Rattle.parameters.specs.declared.Comeback.{Comeback}
+use Rattle.parameters.specs.declared.Offer.{Offer}
+use Rattle.parameters.specs.declared.Parameters.{Parameters}
+use Rattle.parameters.specs.declared.Reading as parameters
+use Rattle.rsne.specs.declared.Reading as rsne
+use Rattle.rsne.specs.declared.Rsne.{Rsne}
 use Rattle.layouts.specs.declared.timeout.Timeout.{Timeout}
 
 -- the octets of a part

@@ -9,9 +9,9 @@ use Rattle.octets.specs.Maybe.{_>>=_}
 use Rattle.elements.specs.declared.Part.{Part}
 use Rattle.elements.specs.Scan.{scanOf}
 use Rattle.elements.specs.Within.{Lies}
-use Rattle.layouts.specs.declared.parameters.Side.the-variants.{Station}
-use Rattle.layouts.specs.Parameters.{parametersOf}
-use Rattle.layouts.specs.Rsne.{rsneOf}
+use Rattle.parameters.specs.declared.Side.the-variants.{Station}
+use Rattle.parameters.specs.Parameters.{parametersOf}
+use Rattle.rsne.specs.Rsne.{rsneOf}
 use Rattle.layouts.specs.Timeout.{timeoutOf}
 use Rattle.frames.specs.declared.contents.Lifetime.{Lifetime}
 use Rattle.frames.specs.declared.first.Facts.{Facts}

@@ -7,8 +7,8 @@ use lib.Dec.{eqb}
 use Rattle.octets.specs.Maybe.{_>>=_}
 use Rattle.elements.specs.declared.Part.{Part}
 use Rattle.elements.specs.Scan.{scanOf}
-use Rattle.layouts.specs.declared.parameters.Side.the-variants.{Station}
-use Rattle.layouts.specs.Parameters.{parametersOf}
+use Rattle.parameters.specs.declared.Side.the-variants.{Station}
+use Rattle.parameters.specs.Parameters.{parametersOf}
 use Rattle.frames.specs.declared.third.Third.{Third}
 use Rattle.frames.specs.Contents.{content, extended, holds, isWalked, once, never, isParameters, noComeback, noKey}
 

@@ -2,17 +2,15 @@
 ghost use mathlib.Core.Path.{_≡_};
 ghost use lib.ListN.{length};
 ghost use Rattle.elements.specs.Within.{Lies, LiesIf};
-ghost use Rattle.layouts.specs.Parameters.{parametersOf};
+ghost use Rattle.parameters.specs.Parameters.{parametersOf};
 ghost use Rattle.frames.specs.Contents.{content, extended, isRsne};
 ghost use Rattle.frames.specs.ByElement.{rsneIn, isLifetimeReading, lifetimeIn};
 use elements::Part;
 use elements::Times;
-use layouts::parameters;
-use layouts::parameters::Side;
-use layouts::rsne;
-use layouts::rsne::Rsne;
 use layouts::timeout;
 use layouts::timeout::Timeout;
+use parameters::Side;
+use rsne::Rsne;
 use units::Seconds;
 
 // The one RSNE.

@@ -11,11 +11,9 @@ use crate::contents::LifetimeReading;
 use elements::Part;
 use elements::Scan;
 use elements::Times;
-use layouts::parameters;
-use layouts::parameters::Offer;
-use layouts::parameters::Side;
-use layouts::rsne;
-use layouts::rsne::Rsne;
+use parameters::Offer;
+use parameters::Side;
+use rsne::Rsne;
 
 // What a first frame says that passes step 1. The PMKIDs and the key are parts of the body.
 pub struct Facts {

@@ -1,6 +1,4 @@
-// The three frames of an exchange, each as a whole.
+// The frames that a unit hears, each read as a whole.
 pub mod contents;
 pub mod first;
-pub mod header;
-pub mod second;
 pub mod third;

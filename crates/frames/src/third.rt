@@ -9,10 +9,9 @@ use crate::contents;
 use elements::Part;
 use elements::Scan;
 use elements::Times;
-use layouts::parameters;
-use layouts::parameters::Comeback;
-use layouts::parameters::Offer;
-use layouts::parameters::Side;
+use parameters::Comeback;
+use parameters::Offer;
+use parameters::Side;
 
 // The place of the MIC, in a third frame that is refused for nothing else.
 pub enum Third {

@@ -1,5 +1,2 @@
 pub mod Mic
-pub mod Parameters
-pub mod ParametersInverse
-pub mod Rsne
 pub mod Timeout

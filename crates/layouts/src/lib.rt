@@ -1,5 +1,3 @@
 // The elements' contents, each read and written in one file.
 pub mod mic;
-pub mod parameters;
-pub mod rsne;
 pub mod timeout;

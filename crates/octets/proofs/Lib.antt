@@ -5,4 +5,5 @@ pub mod Logic
 pub mod Numbers
 pub mod Pieces
 pub mod Parts
+pub mod Writers
 pub mod Search

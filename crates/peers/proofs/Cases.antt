@@ -1,4 +1,4 @@
--- Worked examples, both sides of document 01's edge P4 among them.
+-- Worked examples.
 use Prim.Native.Nat.{ℕ, zero, suc}
 use mathlib.Core.Path.{_≡_, refl}
 use mathlib.Core.Bool.{true, false}
@@ -11,7 +11,7 @@ use Rattle.peers.specs.declared.Phase.{Phase}
 use Rattle.peers.specs.declared.Phase.the-variants.{Waiting, Installed}
 use Rattle.peers.specs.declared.Peer.{Peer}
 use Rattle.peers.specs.declared.Table.{Table}
-use Rattle.peers.specs.View.{live, count, shows, others, full, vacantPeer}
+use Rattle.peers.specs.View.{count, shows, others, full, vacantPeer}
 
 abbrev tu : ℕ → Tu
 tu n = record { 0 = n }
@@ -26,18 +26,6 @@ peer k phase = record {
   pmkid = replicate 16 0;
   phase = phase;
 }
-
-pub waiting-at-its-deadline : live (peer 1 (Waiting (tu 1000))) (tu 1000) ≡ false
-waiting-at-its-deadline = refl
-
-pub waiting-one-before : live (peer 1 (Waiting (tu 1001))) (tu 1000) ≡ true
-waiting-one-before = refl
-
-pub installed-at-its-end : live (peer 1 (Installed (tu 1000))) (tu 1000) ≡ false
-installed-at-its-end = refl
-
-pub installed-one-before : live (peer 1 (Installed (tu 1001))) (tu 1000) ≡ true
-installed-one-before = refl
 
 abbrev table : List Peer → Table
 table ps = record { peers = ps; latest = tu 0 }

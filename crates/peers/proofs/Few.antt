@@ -53,17 +53,17 @@ module _ {addresses : List (List ℕ)} where
       few = λ m h these. omega (arith, x .counted m these, w .few m h (a ∷ these), outside-fewer a these addresses);
     }
 
-    pub few-put : {p : Peer} {r : Table} → List·Memᴰ (p .address) addresses → Puts t p n r → Few addresses n r
-    few-put {p} {r} i x = go (full t n (p .address)) refl
-      where
-        go : (b : Bool) → full t n (p .address) ≡ b → Few addresses n r
-        go true f = rw (x .kept f) w
-        go false f = record {
-          few = λ m h these.
-              let one = both-fewer (live p m) (outside these (p .address)) in
-              omega (arith, x .counted f m h these, w .few m h (p .address ∷ these), outside-member (p .address) these i);
-        }
-
     -- At most sixteen addresses never fill a table for one of them.
     pub few-room : {a : List ℕ} → List·Memᴰ a addresses → length addresses ≤ 16 → full t n a ≡ false
     few-room {a} i h = full-fewer t n a (omega (arith, w .few n (omega arith) (a ∷ []), outside-member a [] i, count-le (outside []) addresses))
+
+  pub few-put : {t r : Table} {p : Peer} → Few addresses (t .latest) t → List·Memᴰ (p .address) addresses → Puts t p r → Few addresses (t .latest) r
+  few-put {t} {r} {p} w i x = go (full t (t .latest) (p .address)) refl
+    where
+      go : (b : Bool) → full t (t .latest) (p .address) ≡ b → Few addresses (t .latest) r
+      go true f = rw (x .kept f) w
+      go false f = record {
+        few = λ m h these.
+            let one = both-fewer (live p m) (outside these (p .address)) in
+            omega (arith, x .counted f m h these, w .few m h (p .address ∷ these), outside-member (p .address) these i);
+      }

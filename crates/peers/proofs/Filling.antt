@@ -27,6 +27,15 @@ module _ (keep : Peer → Bool) where
       let h = both (keep q) (every keep qs) e in
       rw (h .0) (ap (λ (l : List Peer). q ∷ l) (fill-none p qs (h .1)))
 
+  pub fill-length : (p : Peer) (qs : List Peer) → length (fill p qs) ≡ length qs
+  unfolding fill
+  fill-length p [] = refl
+  fill-length p (q ∷ qs) = go (λ x. fill-length x qs) (keep q)
+    where
+      go : ((x : Peer) → length (fill x qs) ≡ length qs) → (b : Bool) → length (if b then q ∷ fill p qs else p ∷ fill vacantPeer qs) ≡ length (q ∷ qs)
+      go ih true = ap suc (ih p)
+      go ih false = ap suc (ih vacantPeer)
+
   -- Where the pass stands at i, with `next` for the next place that is not kept.
   pub record Filling (p : Peer) (t : Table) (next : Peer) (u : Table) (i : ℕ) : Type 0 where
     pub places : length (u .peers) ≡ 16

@@ -71,17 +71,17 @@ module _ (t : Table) (n : Tu) (a : List ℕ) where
       go true e = absurd (omega (arith, full-is e .sixteen))
       go false e = refl
 
-module _ {t : Table} {p : Peer} {n : Tu} {r : Table} (w : Puts t p n r) where
+module _ {t : Table} {p : Peer} {r : Table} (w : Puts t p r) where
   -- Every other address shows what it showed, whether the table is full or not, and whichever place was free.
-  pub put-others : (m : Tu) → n .0 ≤ m .0 → (b : List ℕ) → isOf p b ≡ false → shows r m b ≡ shows t m b
-  put-others m h b e = go (full t n (p .address)) refl
+  pub put-others : (m : Tu) → t .latest .0 ≤ m .0 → (b : List ℕ) → isOf p b ≡ false → shows r m b ≡ shows t m b
+  put-others m h b e = go (full t (t .latest) (p .address)) refl
     where
-      go : (x : Bool) → full t n (p .address) ≡ x → shows r m b ≡ shows t m b
+      go : (x : Bool) → full t (t .latest) (p .address) ≡ x → shows r m b ≡ shows t m b
       go true f = ap (λ (u : Table). shows u m b) (w .kept f)
       go false f = w .shown f m h b ∙ rw e
 
   -- its own address shows the record, while it is live
-  pub put-own : full t n (p .address) ≡ false → (m : Tu) → n .0 ≤ m .0 → shows r m (p .address) ≡ whileLive p m
+  pub put-own : full t (t .latest) (p .address) ≡ false → (m : Tu) → t .latest .0 ≤ m .0 → shows r m (p .address) ≡ whileLive p m
   put-own f m h = w .shown f m h (p .address) ∙ rw (same-refl (p .address))
 
 -- Tables that are alike stay so: no promise tells a place.
@@ -100,24 +100,23 @@ module _ {n : Tu} {t u : Table} (w : Alike n t u) where
   unfolding full
   alike-full a = rw (w .shown n (omega arith) a, w .counted n (omega arith) (a ∷ []))
 
-  pub alike-put : {p : Peer} {r s : Table} → Puts t p n r → Puts u p n s → Alike n r s
-  alike-put {p} {r} {s} x y = go (full u n (p .address)) refl
-    where
-      go : (b : Bool) → full u n (p .address) ≡ b → Alike n r s
-      go true f =
-          let e : full t n (p .address) ≡ true = alike-full (p .address) ∙ f in
-          rw (x .kept e, y .kept f) w
-      go false f =
-          let e : full t n (p .address) ≡ false = alike-full (p .address) ∙ f in
-          record {
-            shown = λ m h a. x .shown e m h a ∙ rw (w .shown m h a) (sym (y .shown f m h a));
-            counted = λ m h these. x .counted e m h these ∙ rw (w .counted m h (p .address ∷ these)) (sym (y .counted f m h these));
-            latest = x .latest ∙ w .latest ∙ sym (y .latest);
-          }
-
   pub alike-drop : {a : List ℕ} {r s : Table} → Drops t a r → Drops u a s → Alike n r s
   alike-drop {a} x y = record {
     shown = λ m h b. x .shown m b ∙ rw (w .shown m h b) (sym (y .shown m b));
     counted = λ m h these. x .counted m these ∙ w .counted m h (a ∷ these) ∙ sym (y .counted m these);
     latest = x .latest ∙ w .latest ∙ sym (y .latest);
   }
+
+pub alike-put : {t u : Table} {p : Peer} {r s : Table} → Alike (t .latest) t u → Puts t p r → Puts u p s → Alike (t .latest) r s
+alike-put {t} {u} {p} {r} {s} w x y = go (full t (t .latest) (p .address)) refl
+  where
+    there : {b : Bool} → full t (t .latest) (p .address) ≡ b → full u (u .latest) (p .address) ≡ b
+    there f = ap (λ (n : Tu). full u n (p .address)) (sym (w .latest)) ∙ sym (alike-full w (p .address)) ∙ f
+
+    go : (b : Bool) → full t (t .latest) (p .address) ≡ b → Alike (t .latest) r s
+    go true f = rw (x .kept f, y .kept (there f)) w
+    go false f = record {
+      shown = λ m h a. x .shown f m h a ∙ rw (w .shown m h a) (sym (y .shown (there f) m (rw (w .latest) at h) a));
+      counted = λ m h these. x .counted f m h these ∙ rw (w .counted m h (p .address ∷ these)) (sym (y .counted (there f) m (rw (w .latest) at h) these));
+      latest = x .latest ∙ w .latest ∙ sym (y .latest);
+    }

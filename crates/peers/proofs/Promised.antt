@@ -76,14 +76,17 @@ module _ (n : Tu) (a : List ℕ) where
         go false e =
             rw (ne-eqb (count taken (t .peers)) 16 (λ k. omega (arith, count-fewer taken (t .peers) e))) (and-false (absent (first (own n a) (t .peers))))
 
-module _ (t : Table) (l : length (t .peers) ≡ 16) (p : Peer) (n : Tu) where
+module _ (t : Table) (l : length (t .peers) ≡ 16) (p : Peer) where
+  abbrev n : Tu
+  n = t .latest
+
   abbrev keep : Peer → Bool
   keep = taken n (p .address)
 
   kept-all : {x : Bool} → full t n (p .address) ≡ x → every keep (t .peers) ≡ x
   kept-all f = sym (full-taken n (p .address) t l) ∙ f
 
-  pub puts : (u : Table) → u .peers ≡ fill keep p (t .peers) → u .latest ≡ t .latest → Puts t p n u
+  pub puts : (u : Table) → u .peers ≡ fill keep p (t .peers) → u .latest ≡ t .latest → Puts t p u
   unfolding shows others
   puts u e k = record {
     kept = λ f. ap₂ (λ (ps : List Peer) (x : Tu). record { peers = ps; latest = x }) (e ∙ fill-none keep p (t .peers) (kept-all f)) k;

@@ -51,12 +51,13 @@ foundPeer t Full = vacantPeer
 abbrev pub whileLive : Peer → Tu → Option Peer
 whileLive p m = if live p m then some p else none
 
--- A full table is kept. In any other, p is the one record of its address from now on, and every other address has what it had.
-pub record Puts (t : Table) (p : Peer) (n : Tu) (r : Table) : Type 0 where
-  pub kept : full t n (p .address) ≡ true → r ≡ t
-  pub shown : full t n (p .address) ≡ false → (m : Tu) → n .0 ≤ m .0 → (b : List ℕ)
+-- A table that is full at its latest reading is kept. In any other, p is the one record of its address from that reading on, and every other address
+-- has what it had.
+pub record Puts (t : Table) (p : Peer) (r : Table) : Type 0 where
+  pub kept : full t (t .latest) (p .address) ≡ true → r ≡ t
+  pub shown : full t (t .latest) (p .address) ≡ false → (m : Tu) → t .latest .0 ≤ m .0 → (b : List ℕ)
       → shows r m b ≡ (if isOf p b then whileLive p m else shows t m b)
-  pub counted : full t n (p .address) ≡ false → (m : Tu) → n .0 ≤ m .0 → (these : List (List ℕ))
+  pub counted : full t (t .latest) (p .address) ≡ false → (m : Tu) → t .latest .0 ≤ m .0 → (these : List (List ℕ))
       → others r m these ≡ others t m (p .address ∷ these) + (if other m these p then 1 else 0)
   pub latest : r .latest ≡ t .latest
 

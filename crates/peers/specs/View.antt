@@ -59,6 +59,10 @@ full t n a = absent (shows t n a) && eqb (others t n (a ∷ [])) 16
 abbrev pub nothingAgreed : Agreed
 nothingAgreed = record { cipher = 0; akm = 0; cached = false; lifetime = record { 0 = 0 } }
 
+-- a table with another latest reading
+abbrev pub dated : Table → Tu → Table
+dated t n = record { peers = t .peers; latest = n }
+
 -- the record that is live at no reading
 abbrev pub vacantPeer : Peer
 vacantPeer = record { address = replicate 6 0; agreed = nothingAgreed; pmkid = replicate 16 0; phase = Waiting (record { 0 = 0 }) }

@@ -137,10 +137,11 @@ pub fn peer_found(t: Table, found: Found) -> Peer
     }
 }
 
-// Stores p in the first place without a live record of another address, and clears the further ones. A full table stays as it is.
-pub fn put(mut t: Table, p: Peer, reading: Tu) -> Table
-    ensures { λ r. ⌜ Puts t p reading r ⌝ }
+// Stores p, at the latest reading, in the first place without a live record of another address, and clears the further ones. A full table stays as it is.
+pub fn put(mut t: Table, p: Peer) -> Table
+    ensures { λ r. ⌜ Puts t p r ⌝ }
 {
+    let reading = t.latest;
     let address = p.address;
     let mut next = p;
     for i in 0..16 {

@@ -10,14 +10,14 @@ use Rattle.units.specs.declared.Tu.{Tu}
 use Rattle.peers.specs.declared.Peer.{Peer}
 use Rattle.peers.specs.declared.Table.{Table}
 use Rattle.peers.specs.Promises.{Drops}
-use Rattle.peers.specs.View.{absent, shows, vacantPeer}
+use Rattle.peers.specs.View.{absent, shows, dated, vacantPeer}
 use Rattle.rules.specs.OnePeer.{clockFits, isGroupAddress, asked}
-use Rattle.calls.specs.declared.Asked.{Asked}
-use Rattle.calls.specs.Seen.{askedOf}
-use Rattle.platform.specs.declared.Removal.{Removal}
-use Rattle.platform.specs.declared.LookUp.{LookUp}
+use Rattle.checks.specs.declared.Asked.{Asked}
+use Rattle.checks.specs.Checked.{askedOf}
+use Rattle.rules.specs.declared.Removal.{Removal}
+use Rattle.rules.specs.declared.LookUp.{LookUp}
 use Rattle.platform.specs.Promises.{Removes, LooksUp}
-use Rattle.platform.proofs.Settling.{dated, dates-early, dates-late, settles-none, settles-same, settles-gone}
+use Rattle.platform.proofs.Settling.{dates-early, dates-late, settles-none, settles-same, settles-gone}
 
 -- the number, by the check
 abbrev numbered : Asked → ℕ → ℕ

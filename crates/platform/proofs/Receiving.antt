@@ -16,6 +16,7 @@ use Rattle.peers.specs.declared.Peer.{Peer}
 use Rattle.peers.specs.declared.Phase.{Phase}
 use Rattle.peers.specs.declared.Table.{Table}
 use Rattle.peers.specs.Promises.{Puts, Drops}
+use Rattle.peers.specs.View.{dated}
 use Rattle.peers.proofs.Laws.{shown-is}
 use Rattle.rules.specs.declared.Answer.{Answer}
 use Rattle.rules.specs.declared.Leaves.{Leaves}
@@ -26,7 +27,7 @@ use Rattle.rules.proofs.Checks.{checks-early}
 use Rattle.calls.specs.Seen.{seen, isFull, BodyGets}
 use Rattle.platform.specs.Inside.{Seats}
 use Rattle.platform.specs.Promises.{Settles, Answers, ruled, Receives}
-use Rattle.platform.proofs.Settling.{dated, dates-early, dates-late, settles-none, settles-same, settles-gone, settles-becomes}
+use Rattle.platform.proofs.Settling.{dates-early, dates-late, settles-none, settles-same, settles-gone, settles-becomes}
 use Rattle.platform.proofs.Finding.{Sees}
 use Rattle.platform.proofs.Sound.{Placed, sound}
 
@@ -70,6 +71,7 @@ module _ (t : Table) (call : Call) where
       let o : ruled t call ≡ unchanged answer = rw e in
       subst (λ (o : Outcome). Answers t call o (call .buffer) (record { table = t; answer = answer; length = 0 })) (sym o)
       (record {
+        number = refl;
         answer = refl;
         reply = wrote-none (call .buffer);
         dates = dates-early t reading (checks-early (t .latest) (call .brought) (call .cache) (length (call .buffer)) e);
@@ -105,6 +107,7 @@ module _ (t : Table) (call : Call) where
     received {l} {r} e d s =
         subst (λ (o : Outcome). Answers t call o after (record { table = r; answer = v .answer; length = v .length })) (sym body-rules)
         (record {
+          number = ap answerNumber (g .answer);
           answer = g .answer;
           reply = g .wrote;
           dates = dates-late t (sound call (isFull found) (seen found peer) (bodyOf (call .body)) .late) d;
@@ -119,7 +122,7 @@ module _ (t : Table) (call : Call) where
     received-gone e d = received (left-gone (outcome .leaves) (sym e ∙ g .leaves)) (d .latest) (settles-gone t address reading d)
 
     pub received-becomes : {agreed : Agreed} {phase : Phase} {r : Table} → v .leaves ≡ Leaves.Becomes agreed phase
-        → Puts (dated t reading) (recordOf address agreed (v .pmkid) phase) reading r → Receives t call after (record { table = r; answer = v .answer; length = v .length })
+        → Puts (dated t reading) (recordOf address agreed (v .pmkid) phase) r → Receives t call after (record { table = r; answer = v .answer; length = v .length })
     received-becomes {agreed} {phase} e u =
         let l = left-becomes (outcome .leaves) address (isFull found) seats (sym e ∙ g .leaves)
         ∙ ap (λ (pmkid : List ℕ). becomes (recordOf address agreed pmkid phase)) (sym (g .pmkid)) in

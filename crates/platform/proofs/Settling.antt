@@ -9,13 +9,9 @@ use Rattle.units.specs.declared.Tu.{Tu}
 use Rattle.peers.specs.declared.Peer.{Peer}
 use Rattle.peers.specs.declared.Table.{Table}
 use Rattle.peers.specs.Promises.{whileLive, Puts, Drops}
-use Rattle.peers.specs.View.{other, shows, others, full}
+use Rattle.peers.specs.View.{other, shows, others, full, dated}
 use Rattle.rules.specs.OnePeer.{Left, same, gone, becomes, isEarly}
 use Rattle.platform.specs.Promises.{Settles, Dates}
-
--- a table at another latest reading shows the same
-abbrev pub dated : Table → Tu → Table
-dated t n = record { peers = t .peers; latest = n }
 
 either : {A : Type 0} (b : Bool) (x : A) → x ≡ (if b then x else x)
 either true x = refl
@@ -41,7 +37,7 @@ module _ (t : Table) (a : List ℕ) (n : Tu) where
   unfolding shows others
   settles-gone d = record { shown = λ m h b. d .shown m b; counted = λ m h these. d .counted m these }
 
-  pub settles-becomes : {l : Tu} {r : Table} (p : Peer) → p .address ≡ a → full t n a ≡ false → Puts (dated t l) p n r → Settles t a n (becomes p) r
+  pub settles-becomes : {r : Table} (p : Peer) → p .address ≡ a → full t n a ≡ false → Puts (dated t n) p r → Settles t a n (becomes p) r
   unfolding shows others full
   settles-becomes p e f u =
       let g : full t n (p .address) ≡ false = ap (full t n) e ∙ f in

@@ -12,11 +12,11 @@ use Rattle.peers.specs.declared.Peer.{Peer}
 use Rattle.peers.specs.declared.Table.{Table}
 use Rattle.peers.specs.View.{other, shows, others, full, vacantPeer}
 use Rattle.peers.specs.Promises.{whileLive}
-use Rattle.rules.specs.OnePeer.{Call, Left, same, gone, becomes, Outcome, answerNumber, isEarly, receiveOf, removeOf, lookUpOf}
+use Rattle.rules.specs.declared.LookUp.{LookUp}
+use Rattle.rules.specs.declared.Removal.{Removal}
+use Rattle.rules.specs.OnePeer.{Call, Left, same, gone, becomes, Outcome, answerNumber, isEarly, receiveOf, removalNumber, removeOf, lookNumber, lookUpOf}
 use Rattle.platform.specs.declared.Received.{Received}
-use Rattle.platform.specs.declared.Removal.{Removal}
 use Rattle.platform.specs.declared.Removed.{Removed}
-use Rattle.platform.specs.declared.LookUp.{LookUp}
 use Rattle.platform.specs.declared.LookedUp.{LookedUp}
 
 -- what is shown of this peer afterwards, by what was shown and what the call leaves
@@ -42,8 +42,10 @@ pub record Dates (t : Table) (n : Tu) (number : ℕ) (r : Table) : Type 0 where
   pub early : isEarly number ≡ true → r ≡ t
   pub latest : isEarly number ≡ false → r .latest ≡ n
 
--- What a receive promises: the answer and the length told, each octet of the reply buffer, the latest reading, and what the table shows.
+-- What a receive promises: the answer's number, and with 11 the step that refused; the length told, each octet of the reply buffer, the latest reading,
+-- and what the table shows.
 pub record Answers (t : Table) (call : Call) (outcome : Outcome) (after : List ℕ) (r : Received) : Type 0 where
+  pub number : answerNumber (r .answer) ≡ answerNumber (outcome .answer)
   pub answer : r .answer ≡ outcome .answer
   pub reply : Wrote (outcome .reply) (r .length) (call .buffer) after
   pub dates : Dates t (call .brought .reading) (answerNumber (outcome .answer)) (r .table)
@@ -59,12 +61,6 @@ Receives t call after r = Answers t call (ruled t call) after r
 
 -- Removal and look-up -------------------------------------------------------------------------------------------------------------------
 
-abbrev pub removalNumber : Removal → ℕ
-removalNumber Removal.ClockOut = 1
-removalNumber Removal.GroupAddress = 4
-removalNumber Removal.NoRecord = 17
-removalNumber Removal.Removed = 16
-
 -- what a removal leaves of this address's record
 abbrev pub leftByRemoval : Removal → Left
 leftByRemoval Removal.ClockOut = same
@@ -76,12 +72,6 @@ pub record Removes (t : Table) (address : List ℕ) (n : Tu) (r : Removed) : Typ
   pub number : removalNumber (r .answer) ≡ removeOf (t .latest) n address (shows t n address)
   pub dates : Dates t n (removalNumber (r .answer)) (r .table)
   pub settles : Settles t address n (leftByRemoval (r .answer)) (r .table)
-
-abbrev pub lookNumber : LookUp → ℕ
-lookNumber LookUp.ClockOut = 1
-lookNumber LookUp.GroupAddress = 4
-lookNumber LookUp.NoRecord = 17
-lookNumber LookUp.Shown = 18
 
 -- the record beside 18 is this peer's; beside another answer there is none
 abbrev pub IsSeen : Option Peer → Peer → LookUp → Type 0

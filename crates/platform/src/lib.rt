@@ -1,17 +1,18 @@
 // The platform unit: sixteen records, and the operations that a host calls. None of them has a `requires`.
 ghost use mathlib.Core.Path.{_≡_};
 ghost use Rattle.peers.specs.Promises.{Nobody};
-ghost use Rattle.rules.specs.OnePeer.{answerNumber};
 ghost use Rattle.rules.specs.Told.{callOf};
-ghost use Rattle.platform.specs.Promises.{Receives, Removes, LooksUp, removalNumber, lookNumber};
-use calls::Asked;
-use calls::Checked;
+ghost use Rattle.platform.specs.Promises.{Receives, Removes, LooksUp};
+use checks::Asked;
+use checks::Checked;
 use peers::Found;
 use peers::Peer;
 use peers::Table;
 use rules::Answer;
 use rules::Brought;
 use rules::Leaves;
+use rules::LookUp;
+use rules::Removal;
 use units::Tu;
 
 // What a receive gives back: the table, the answer, and how many octets of the reply buffer are the reply.
@@ -21,76 +22,16 @@ pub struct Received {
     pub length: usize,
 }
 
-pub enum Removal {
-    ClockOut,
-    GroupAddress,
-    NoRecord,
-    Removed,
-}
-
 // What a removal gives back.
 pub struct Removed {
     pub table: Table,
     pub answer: Removal,
 }
 
-pub enum LookUp {
-    ClockOut,
-    GroupAddress,
-    NoRecord,
-    Shown,
-}
-
 // What a look-up gives back: `peer` is the record where it is `Shown`, and else a vacant one.
 pub struct LookedUp {
     pub answer: LookUp,
     pub peer: Peer,
-}
-
-// The answers' numbers in document 01.
-pub fn answer_number(answer: Answer) -> u8
-    ensures { λ r. ⌜ r ≡ answerNumber answer ⌝ }
-{
-    match answer {
-        Answer::Accepted => 0,
-        Answer::ClockOut => 1,
-        Answer::BufferShort => 2,
-        Answer::SettingsOut => 3,
-        Answer::GroupAddress => 4,
-        Answer::CacheIll => 5,
-        Answer::OwnKey => 6,
-        Answer::BodyLength => 7,
-        Answer::Algorithm => 8,
-        Answer::Transaction => 9,
-        Answer::PeerInstalled => 10,
-        Answer::Refused(_) => 11,
-        Answer::StatusNotZero => 12,
-        Answer::NoExchange => 13,
-        Answer::ThirdRefused => 14,
-        Answer::Installed => 15,
-    }
-}
-
-pub fn removal_number(answer: Removal) -> u8
-    ensures { λ r. ⌜ r ≡ removalNumber answer ⌝ }
-{
-    match answer {
-        Removal::ClockOut => 1,
-        Removal::GroupAddress => 4,
-        Removal::NoRecord => 17,
-        Removal::Removed => 16,
-    }
-}
-
-pub fn look_number(answer: LookUp) -> u8
-    ensures { λ r. ⌜ r ≡ lookNumber answer ⌝ }
-{
-    match answer {
-        LookUp::ClockOut => 1,
-        LookUp::GroupAddress => 4,
-        LookUp::NoRecord => 17,
-        LookUp::Shown => 18,
-    }
 }
 
 // A unit that starts: no record, latest reading 0.
@@ -122,7 +63,7 @@ pub fn receive(
 ) -> Received
     ensures { λ r. ⌜ Receives t (callOf brought (now (file .entry)) (now (key .entry)) (now (mic .entry)) (now (body .entry)) (now (reply .entry))) (now (reply .exit)) r ⌝ }
 {
-    let checked = calls::check_call(t.latest, brought, file, reply.len());
+    let checked = checks::check_call(t.latest, brought, file, reply.len());
     if let Checked::Failed(answer) = checked {
         return given_back(t, answer, 0);
     }
@@ -146,7 +87,7 @@ pub fn receive(
                 pmkid: pmkid,
                 phase: phase,
             };
-            given_back(peers::put(t, next, reading), answer, length)
+            given_back(peers::put(t, next), answer, length)
         }
     }
 }
@@ -164,7 +105,7 @@ fn taken_out(table: Table, answer: Removal) -> Removed
 pub fn remove(mut t: Table, address: [u8; 6], reading: Tu) -> Removed
     ensures { λ r. ⌜ Removes t address reading r ⌝ }
 {
-    let asked = calls::check_address(t.latest, address, reading);
+    let asked = checks::check_address(t.latest, address, reading);
     match asked {
         Asked::ClockOut => taken_out(t, Removal::ClockOut),
         Asked::GroupAddress => taken_out(t, Removal::GroupAddress),
@@ -192,7 +133,7 @@ fn looked(answer: LookUp, peer: Peer) -> LookedUp
 pub fn look_up(t: Table, address: [u8; 6], reading: Tu) -> LookedUp
     ensures { λ r. ⌜ LooksUp t address reading r ⌝ }
 {
-    let asked = calls::check_address(t.latest, address, reading);
+    let asked = checks::check_address(t.latest, address, reading);
     match asked {
         Asked::ClockOut => looked(LookUp::ClockOut, peers::vacant()),
         Asked::GroupAddress => looked(LookUp::GroupAddress, peers::vacant()),

@@ -1,12 +1,10 @@
 // The call records: each makes its call and prints its line.
 ghost use Prim.Native.Nat.{_≤_};
 ghost use lib.ListN.{length};
-use crate::lines;
 use crate::setup::ANY;
 use crate::setup::LONGEST_BUFFER;
 use crate::setup::LONGEST_LENT;
 use crate::setup::Setup;
-use crate::text;
 use peers::Table;
 use rules::Answer;
 use rules::Brought;
@@ -145,7 +143,9 @@ fn look_up(t: Table, value: &[u8]) -> Called {
         return refuse(t);
     }
     let looked = platform::look_up(t, address_of(value), reading_of(value));
-    lines::put_looked_up(looked);
+    let answer = looked.answer;
+    let peer = looked.peer;
+    lines::put_looked_up(answer, peer);
     done(t)
 }
 
@@ -164,7 +164,10 @@ fn show_key(t: Table, body: &[u8]) -> Called {
     if body.len() > LONGEST_BODY {
         return refuse(t);
     }
-    lines::put_key(chip::show_key(body));
+    let key = chip::show_key(body);
+    let start = key.start;
+    let end = key.end;
+    lines::put_key(&body[start..end]);
     done(t)
 }
 
@@ -204,7 +207,7 @@ fn empty(t: Table, value: &[u8]) -> Called {
     if value.len() != 0 {
         return refuse(t);
     }
-    text::put(b"empty\n");
+    lines::text::put(b"empty\n");
     done(platform::empty())
 }
 

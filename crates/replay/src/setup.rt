@@ -1,9 +1,9 @@
 // What set-up records leave in force until the next one of their tag.
-use frames::second::LONGEST;
 use rules::Lent;
 use rules::Settings;
 use units::Seconds;
 use units::Tu;
+use writers::second::LONGEST;
 
 // The octets that a length of two octets can count, and one more.
 pub const ANY: usize = 65536;

@@ -16,22 +16,20 @@ use Rattle.elements.specs.Scan.{scanOf}
 use Rattle.suites.specs.Suite.{suiteAt, suiteOctets}
 use Rattle.suites.specs.Tables.{akmOf, cipherOf, groupOf, isKeyOf}
 use Rattle.layouts.specs.Mic.{micOctets}
-use Rattle.layouts.specs.Parameters.{parametersOf, parametersOctets}
-use Rattle.layouts.specs.Rsne.{rsneOf, rsneOctets}
+use Rattle.parameters.specs.Parameters.{parametersOf, parametersOctets}
+use Rattle.rsne.specs.Rsne.{rsneOf, rsneOctets}
 use Rattle.layouts.specs.Timeout.{timeoutOf, timeoutOctets}
 use Rattle.frames.specs.First.{firstOf}
-use Rattle.frames.specs.Header.{headerOctets}
-use Rattle.frames.specs.Second.{secondOctets}
+use Rattle.writers.specs.Header.{headerOctets}
+use Rattle.writers.specs.Second.{secondOctets}
 use Rattle.frames.specs.Third.{thirdOf}
 use Rattle.cache.specs.File.{isWellFormed, recordsOf}
 use Rattle.cache.specs.Search.{choiceOf}
 use Rattle.peers.specs.declared.Peer.{Peer}
 use Rattle.peers.specs.declared.Phase.{Phase}
 use Rattle.peers.specs.declared.Phase.the-variants.{Waiting, Installed}
-use Rattle.rules.specs.declared.Answer.{Answer}
-use Rattle.rules.specs.declared.Refusal.{Refusal}
 use Rattle.rules.specs.declared.Settings.{Settings}
-use Rattle.rules.specs.Alone.{receive, remove, lookUp, answered, removed, found, aloneGets, aloneAfter}
+use Rattle.rules.specs.Alone.{remove, lookUp, answered, removed, found, aloneGets}
 use Rattle.rules.specs.OnePeer.{Call, Outcome, answerNumber, statusBeside, peerAfter, receiveOf, removeOf, lookUpOf}
 
 abbrev tu : ℕ → Tu
@@ -288,26 +286,16 @@ unfolding gets
 akm-21 = refl
 
 -- a waiting record goes, except with status 30
-pub refused-waiting : received false older (tried usual [] usualBody) ≡ refused 53 none
+pub refused-while-waiting :
+    received false older (tried usual [] usualBody) ∷ received true older (hears usualBody) ∷ [] ≡ refused 53 none ∷ refused 30 older ∷ []
 unfolding gets
-refused-waiting = refl
-
-pub refused-full : received true older (hears usualBody) ≡ refused 30 older
-unfolding gets
-refused-full = refl
+refused-while-waiting = refl
 
 -- The second of two PMKIDs is cached. The lifetime is the frame's 600 s, the deadline 5,000 + 1,000 TU, and the older record is replaced.
 pub accepted-again :
     received false older (hears (firstBody 0 7 7 4 8 0xc0 19 3 (id 0xa5 ++ id 0xa8) ++ timeout 0x58 0x02)) ≡ accepted 8 (id 0xa8) (timeout 0x58 0x02) waiting
 unfolding gets
 accepted-again = refl
-
--- the settings' 60 s are less than the frame's
-pub accepted-shorter :
-    received false none (tried (settings true 15 60 2000) (cached 8) (usualBody ++ timeout 0x58 0x02))
-    ≡ accepted 8 (id 0xa8) (timeout 60 0) (peer (Waiting (tu 7000)) 8 true (id 0xa8) 60)
-unfolding gets
-accepted-shorter = refl
 
 -- no PMKID, and no Timeout: the settings' 3,600 s
 pub accepted-without :
@@ -317,23 +305,17 @@ accepted-without = refl
 
 -- The third frame -----------------------------------------------------------------------------------------------------------------------
 
--- no record, and an installed one, whatever the status
-pub third-no-exchange :
-    received false none (hears (thirdBody 1 0x3c)) ∷ received false installed (hears (thirdBody 1 0x3c)) ∷ [] ≡ silent 13 none ∷ silent 13 installed ∷ []
+-- without a record, and with an installed one, whatever the status; then with a waiting one: status 1, another MIC, and the lent one
+pub thirds :
+    received false none (hears (thirdBody 1 0x3c))
+    ∷ received false installed (hears (thirdBody 1 0x3c))
+    ∷ received false waiting (hears (thirdBody 1 0x3c))
+    ∷ received false waiting (hears (thirdBody 0 0x3d))
+    ∷ received false waiting (hears (thirdBody 0 0x3c))
+    ∷ []
+    ≡ silent 13 none ∷ silent 13 installed ∷ silent 12 none ∷ silent 14 none ∷ silent 15 installed ∷ []
 unfolding gets
-third-no-exchange = refl
-
-pub third-status-1 : received false waiting (hears (thirdBody 1 0x3c)) ≡ silent 12 none
-unfolding gets
-third-status-1 = refl
-
-pub third-another-mic : received false waiting (hears (thirdBody 0 0x3d)) ≡ silent 14 none
-unfolding gets
-third-another-mic = refl
-
-pub third-accepted : received false waiting (hears (thirdBody 0 0x3c)) ≡ silent 15 installed
-unfolding gets
-third-accepted = refl
+thirds = refl
 
 -- Removal and look-up -------------------------------------------------------------------------------------------------------------------
 
@@ -346,27 +328,10 @@ asked f =
     ∷ f (tu 4000) (tu 4000) station waiting
     ∷ []
 
-pub removals : asked removeOf ≡ 1 ∷ 4 ∷ 17 ∷ 16 ∷ []
-removals = refl
-
-pub look-ups : asked lookUpOf ≡ 1 ∷ 4 ∷ 17 ∷ 18 ∷ []
-look-ups = refl
+pub removals-and-look-ups : asked removeOf ∷ asked lookUpOf ∷ [] ≡ (1 ∷ 4 ∷ 17 ∷ 16 ∷ []) ∷ (1 ∷ 4 ∷ 17 ∷ 18 ∷ []) ∷ []
+removals-and-look-ups = refl
 
 -- One peer alone ------------------------------------------------------------------------------------------------------------------------
-
--- its first frame begins an exchange, since nobody else takes a place
-pub alone-begins : aloneAfter (receive (hears usualBody) ∷ []) .peer ≡ peer (Waiting (tu 6000)) 8 true (id 0xa8) 3600
-unfolding gets
-alone-begins = refl
-
--- a refusal overwrites the front of the reply buffer
-pub alone-refused : aloneGets (receive (hears (header 7 1 0)) ∷ []) ≡ answered (Answer.Refused Refusal.IllFormed) 6 (header 7 2 40 ++ replicate 142 0) ∷ []
-unfolding gets
-alone-refused = refl
-
-pub alone-removed : aloneAfter (receive (hears usualBody) ∷ remove station (tu 5000) ∷ []) .peer ≡ none
-unfolding gets
-alone-removed = refl
 
 -- a look-up ahead of time sets no latest reading
 pub alone-looks-ahead : aloneGets (lookUp station (tu 60) ∷ remove station (tu 10) ∷ []) ≡ found 17 none ∷ removed 17 ∷ []

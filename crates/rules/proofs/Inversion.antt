@@ -17,9 +17,9 @@ use Rattle.suites.specs.declared.GroupEntry.{GroupEntry}
 use Rattle.suites.specs.declared.Suite.the-variants.{Ours, Other}
 use Rattle.suites.specs.Tables.{akmOf, cipherOf, groupOf}
 use Rattle.suites.proofs.Laws.{akm-found}
-use Rattle.layouts.specs.declared.rsne.Only.{Only}
-use Rattle.layouts.specs.declared.rsne.Only.the-variants.{One, Otherwise}
-use Rattle.layouts.specs.declared.rsne.Rsne.{Rsne}
+use Rattle.rsne.specs.declared.Only.{Only}
+use Rattle.rsne.specs.declared.Only.the-variants.{One, Otherwise}
+use Rattle.rsne.specs.declared.Rsne.{Rsne}
 use Rattle.frames.specs.declared.first.Facts.{Facts}
 use Rattle.frames.specs.Contents.{content}
 use Rattle.frames.specs.First.{firstOf}

@@ -1,5 +1,5 @@
 pub mod Cases
-pub mod Lifetimes
 pub mod Pmkids
 pub mod Checks
 pub mod Inversion
+pub mod Verdicts

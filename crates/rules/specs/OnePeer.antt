@@ -23,16 +23,16 @@ use Rattle.suites.specs.declared.GroupEntry.{GroupEntry}
 use Rattle.suites.specs.declared.Suite.{Suite}
 use Rattle.suites.specs.declared.Suite.the-variants.{Ours, Other}
 use Rattle.suites.specs.Tables.{akmOf, cipherOf, groupOf, isKeyOf}
-use Rattle.layouts.specs.declared.rsne.Rsne.{Rsne}
-use Rattle.layouts.specs.declared.rsne.Only.{Only}
-use Rattle.layouts.specs.declared.rsne.Only.the-variants.{One, Otherwise}
+use Rattle.rsne.specs.declared.Rsne.{Rsne}
+use Rattle.rsne.specs.declared.Only.{Only}
+use Rattle.rsne.specs.declared.Only.the-variants.{One, Otherwise}
 use Rattle.frames.specs.declared.contents.Lifetime.{Lifetime}
 use Rattle.frames.specs.declared.first.Facts.{Facts}
-use Rattle.frames.specs.declared.second.Chosen.{Chosen}
+use Rattle.writers.specs.declared.second.Chosen.{Chosen}
 use Rattle.frames.specs.Contents.{content}
 use Rattle.frames.specs.First.{firstOf}
-use Rattle.frames.specs.Header.{headerOctets}
-use Rattle.frames.specs.Second.{secondOctets, longestSecond}
+use Rattle.writers.specs.Header.{headerOctets}
+use Rattle.writers.specs.Second.{secondOctets, longestSecond}
 use Rattle.frames.specs.Third.{thirdOf}
 use Rattle.cache.specs.declared.Choice.{Choice}
 use Rattle.cache.specs.File.{isWellFormed, recordsOf}
@@ -44,7 +44,9 @@ use Rattle.peers.specs.declared.Phase.the-variants.{Waiting, Installed}
 use Rattle.peers.specs.View.{absent}
 use Rattle.rules.specs.declared.Answer.{Answer}
 use Rattle.rules.specs.declared.Brought.{Brought}
+use Rattle.rules.specs.declared.LookUp.{LookUp}
 use Rattle.rules.specs.declared.Refusal.{Refusal}
+use Rattle.rules.specs.declared.Removal.{Removal}
 use Rattle.rules.specs.declared.Settings.{Settings}
 
 -- What a call brings -------------------------------------------------------------------------------------------------------------------
@@ -340,12 +342,16 @@ waitingPeer brought passed = record {
   phase = Waiting (after (brought .reading) (brought .settings .deadline));
 }
 
--- 11: its status beside it, the 6-octet reply, and what it leaves of a record, which waits or is not there
+-- what a refusal leaves of a record, which waits or is not there
+abbrev pub leftBy : Bool → Refusal → Left
+leftBy waiting why = if termsOf why .spares then same else goneIf waiting
+
+-- 11: its status beside it, the 6-octet reply, and what it leaves
 abbrev pub refusal : ℕ → Bool → Refusal → Outcome
 refusal algorithm waiting why = record {
   answer = Answer.Refused why;
   reply = headerOctets algorithm 2 (termsOf why .status);
-  leaves = if termsOf why .spares then same else goneIf waiting;
+  leaves = leftBy waiting why;
 }
 
 -- 0, or 6, which comes after every refusal and leaves all as it was
@@ -458,9 +464,21 @@ asked latest reading address number =
     else if isGroupAddress address then 4
     else number
 
+abbrev pub removalNumber : Removal → ℕ
+removalNumber Removal.ClockOut = 1
+removalNumber Removal.GroupAddress = 4
+removalNumber Removal.NoRecord = 17
+removalNumber Removal.Removed = 16
+
 -- 17 (no live record), 16 (removed)
 abbrev pub removeOf : Tu → Tu → List ℕ → Option Peer → ℕ
 removeOf latest reading address own = asked latest reading address (if absent own then 17 else 16)
+
+abbrev pub lookNumber : LookUp → ℕ
+lookNumber LookUp.ClockOut = 1
+lookNumber LookUp.GroupAddress = 4
+lookNumber LookUp.NoRecord = 17
+lookNumber LookUp.Shown = 18
 
 -- 17 without a record, or 18 and the record
 abbrev pub lookUpOf : Tu → Tu → List ℕ → Option Peer → ℕ

@@ -1,65 +1,15 @@
--- What the code's structs and enums tell, in the words of the one-peer rules.
+-- What a call's structs and enums tell, in the words of the one-peer rules.
 use Prim.Native.Nat.{ℕ, _≤_, _^_}
-use mathlib.Core.Bool.{Bool, true, false}
+use mathlib.Core.Bool.{true}
 use mathlib.Core.List.{List, []}
-use mathlib.Core.Option.{Option, none, some}
 use mathlib.Core.Path.{_≡_}
 use lib.ListN.{replicate}
 use Rattle.octets.specs.Wrote.{Wrote}
-use Rattle.suites.specs.declared.Akm.{Akm}
-use Rattle.suites.specs.declared.AkmEntry.{AkmEntry}
-use Rattle.suites.specs.declared.Group.{Group}
-use Rattle.frames.specs.declared.first.Facts.{Facts}
-use Rattle.frames.specs.Contents.{content}
 use Rattle.cache.specs.File.{isWellFormed}
 use Rattle.rules.specs.declared.Brought.{Brought}
 use Rattle.rules.specs.declared.Leaves.{Leaves}
-use Rattle.rules.specs.declared.Refusal.{Refusal}
 use Rattle.rules.specs.declared.Verdict.{Verdict}
-use Rattle.rules.specs.declared.steps.CipherStep.{CipherStep}
-use Rattle.rules.specs.declared.steps.KeySteps.{KeySteps}
-use Rattle.rules.specs.declared.steps.PmkidStep.{PmkidStep}
-use Rattle.rules.specs.declared.steps.SuiteSteps.{SuiteSteps}
-use Rattle.rules.specs.OnePeer.{Call, Left, same, gone, becomes, Outcome, Step, refuse, pass, _>>=_, Suites, Passed, keySteps, step10, step11, lifetimeOf, passedWith, smallestBuffer}
-
--- The steps -----------------------------------------------------------------------------------------------------------------------------
-
-abbrev pub cipherTold : CipherStep → Step ℕ
-cipherTold (CipherStep.Chosen kind) = pass kind
-cipherTold CipherStep.Refused = refuse Refusal.PairwiseCipher
-
-abbrev pub akmTold : AkmEntry → Step Akm
-akmTold (AkmEntry.In akm) = pass akm
-akmTold AkmEntry.NotInTable = refuse Refusal.Akm
-
-abbrev pub suitesTold : SuiteSteps → Step Suites
-suitesTold (SuiteSteps.Passed cipher akm) = pass (record { cipher = cipher; akm = akm })
-suitesTold (SuiteSteps.Refused why) = refuse why
-
-abbrev pub keyTold : KeySteps → Step Group
-keyTold (KeySteps.Passed group) = pass group
-keyTold (KeySteps.Refused why) = refuse why
-
--- step 10 as its struct tells it: beside none, and where it refuses, the PMKID is zeros
-abbrev pub pmkidStepOf : Step (Option (List ℕ)) → PmkidStep
-pmkidStepOf (refuse why) = record { passed = false; cached = false; pmkid = replicate 16 0 }
-pmkidStepOf (pass none) = record { passed = true; cached = false; pmkid = replicate 16 0 }
-pmkidStepOf (pass (some pmkid)) = record { passed = true; cached = true; pmkid = pmkid }
-
--- the steps from the tenth and from the seventh on
-unfoldable pub withKey : Brought → List ℕ → List ℕ → Bool → Facts → ℕ → Akm → Group → Step Passed
-withKey brought cache body full facts cipher akm group = do
-  pmkid ← step10 akm cache (brought .reading) (content body (facts .rsne .pmkids))
-  _ ← step11 full
-  pass (passedWith (record { cipher = cipher; akm = akm }) group pmkid (lifetimeOf (brought .settings .lifetime) (facts .lifetime)))
-
-unfoldable pub withSuites : Brought → List ℕ → List ℕ → Bool → Facts → ℕ → Akm → Step Passed
-unfolding withKey
-withSuites brought cache body full facts cipher akm = do
-  group ← keySteps (facts .group) (content body (facts .key)) (brought .lent .point)
-  withKey brought cache body full facts cipher akm group
-
--- Calls and verdicts --------------------------------------------------------------------------------------------------------------------
+use Rattle.rules.specs.OnePeer.{Call, Left, same, gone, becomes, Outcome, smallestBuffer}
 
 abbrev pub callOf : Brought → List ℕ → List ℕ → List ℕ → List ℕ → List ℕ → Call
 callOf brought cache key mic body buffer = record { brought = brought; cache = cache; key = key; mic = mic; body = body; buffer = buffer }

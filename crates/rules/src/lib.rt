@@ -1,9 +1,8 @@
-// The rules for one peer: what a receive brings and gets, and the steps that choose. No table stands in them.
-pub mod steps;
+// The rules for one peer: what a receive brings and what it gets. No table stands in them.
 
 ghost use mathlib.Core.Path.{_≡_};
 ghost use lib.ListN.{replicate};
-ghost use Rattle.rules.specs.OnePeer.{termsOf};
+ghost use Rattle.rules.specs.OnePeer.{termsOf, answerNumber, removalNumber, lookNumber};
 use peers::Agreed;
 use peers::Phase;
 use units::Seconds;
@@ -100,6 +99,67 @@ pub enum Answer {
     NoExchange,
     ThirdRefused,
     Installed,
+}
+
+// The answer's number in document 01.
+pub fn answer_number(answer: Answer) -> u8
+    ensures { λ r. ⌜ r ≡ answerNumber answer ⌝ }
+{
+    match answer {
+        Answer::Accepted => 0,
+        Answer::ClockOut => 1,
+        Answer::BufferShort => 2,
+        Answer::SettingsOut => 3,
+        Answer::GroupAddress => 4,
+        Answer::CacheIll => 5,
+        Answer::OwnKey => 6,
+        Answer::BodyLength => 7,
+        Answer::Algorithm => 8,
+        Answer::Transaction => 9,
+        Answer::PeerInstalled => 10,
+        Answer::Refused(_) => 11,
+        Answer::StatusNotZero => 12,
+        Answer::NoExchange => 13,
+        Answer::ThirdRefused => 14,
+        Answer::Installed => 15,
+    }
+}
+
+// What a removal answers, and what a look-up.
+pub enum Removal {
+    ClockOut,
+    GroupAddress,
+    NoRecord,
+    Removed,
+}
+
+pub enum LookUp {
+    ClockOut,
+    GroupAddress,
+    NoRecord,
+    Shown,
+}
+
+pub fn removal_number(answer: Removal) -> u8
+    ensures { λ r. ⌜ r ≡ removalNumber answer ⌝ }
+{
+    match answer {
+        Removal::ClockOut => 1,
+        Removal::GroupAddress => 4,
+        Removal::NoRecord => 17,
+        Removal::Removed => 16,
+    }
+}
+
+pub fn look_number(answer: LookUp) -> u8
+    ensures { λ r. ⌜ r ≡ lookNumber answer ⌝ }
+{
+    match answer {
+        LookUp::ClockOut => 1,
+        LookUp::GroupAddress => 4,
+        LookUp::NoRecord => 17,
+        LookUp::Shown => 18,
+    }
 }
 
 // What a frame leaves of this peer's record: the same, none, or another.

@@ -8,8 +8,8 @@ use Rattle.octets.specs.Pieces.{pieces}
 use Rattle.units.specs.declared.Tu.{Tu}
 use Rattle.peers.specs.declared.Peer.{Peer}
 use Rattle.peers.specs.declared.Table.{Table}
-use Rattle.peers.specs.View.{noPeer}
-use Rattle.state.specs.Record.{recordSize, peerOf}
+use Rattle.peers.specs.View.{dated, noPeer}
+use Rattle.records.specs.Record.{recordSize, peerOf}
 
 -- where the latest reading begins
 abbrev pub latestAt : ℕ
@@ -27,12 +27,9 @@ tableOf s = record { peers = map peerOf (pieces recordSize 16 s); latest = recor
 abbrev pub place : List ℕ → ℕ → Peer
 place s i = getD (tableOf s .peers) i noPeer
 
--- a table with another i-th record, and with another latest reading
+-- a table with another i-th record
 abbrev pub stored : Table → ℕ → Peer → Table
 stored t i p = record { peers = set (t .peers) i p; latest = t .latest }
-
-abbrev pub dated : Table → Tu → Table
-dated t n = record { peers = t .peers; latest = n }
 
 -- The latest reading of a state becomes n. Where it was n already, every octet stays.
 pub record Redates (s : List ℕ) (n : Tu) (s' : List ℕ) : Type 0 where

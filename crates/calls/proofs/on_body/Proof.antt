@@ -1,6 +1,6 @@
 use mathlib.Core.Path.{sym, _∙_}
 use borrow.Author.Tests.{eq-eqb, ne-eqb}
-use Rattle.verdicts.proofs.Verdicts.{stays, in-any}
+use Rattle.rules.proofs.Verdicts.{stays, in-any}
 use borrow.Author.Needs.{needs}
 use Rattle.calls.proofs.on_body.Statement.{statement}
 use Rattle.calls.proofs.on_body.Tie as tie

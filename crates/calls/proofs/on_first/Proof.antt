@@ -1,5 +1,5 @@
 use mathlib.Core.Path.{sym, _∙_}
-use Rattle.verdicts.proofs.Verdicts.{stays}
+use Rattle.rules.proofs.Verdicts.{stays}
 use borrow.Author.Needs.{needs}
 use Rattle.calls.proofs.on_first.Statement.{statement}
 use Rattle.calls.proofs.on_first.Tie as tie

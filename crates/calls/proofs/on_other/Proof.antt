@@ -1,6 +1,6 @@
 use mathlib.Core.Path.{sym, _∙_}
 use mathlib.Core.List.{[]}
-use Rattle.verdicts.proofs.Verdicts.{stays, goes}
+use Rattle.rules.proofs.Verdicts.{stays, goes}
 use borrow.Author.Needs.{needs}
 use Rattle.calls.proofs.on_other.Statement.{statement}
 use Rattle.calls.proofs.on_other.Tie as tie

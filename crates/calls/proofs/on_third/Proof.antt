@@ -1,6 +1,6 @@
 use mathlib.Core.List.{[]}
 use Rattle.calls.proofs.Seen.{seen-at, seen-none}
-use Rattle.verdicts.proofs.Verdicts.{stays}
+use Rattle.rules.proofs.Verdicts.{stays}
 use borrow.Author.Needs.{needs}
 use Rattle.calls.proofs.on_third.Statement.{statement}
 use Rattle.calls.proofs.on_third.Tie as tie

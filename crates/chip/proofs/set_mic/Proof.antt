@@ -2,7 +2,7 @@ use mathlib.Core.Path.{sym, _∙_}
 use native.Mathlib.Omega.{arith}
 use lib.ListN.{length-take, length-drop}
 use borrow.Author.Tests.{eq-eqb, ne-eqb}
-use Rattle.chip.specs.Chip.{setAnswer, setOctets}
+use Rattle.chip.specs.Chip.{setNumber, setOctets}
 use Rattle.chip.proofs.Laws.{mic-lies, mic-set}
 use borrow.Author.Needs.{needs}
 use Rattle.chip.proofs.set_mic.Statement.{statement}
@@ -21,10 +21,10 @@ same-length : tie.Need-same-length
 same-length c = search needs
 
 returns : tie.Need-returns
-unfolding setAnswer setOctets
+unfolding setNumber setOctets
 returns c =
     let p = c .before .before in
-    (rw (sym (p .mic-in .ensures) ∙ c .enum-told .given .1), rw (sym (p .mic-in .ensures) ∙ c .enum-told .given .1))
+    record { number = rw (sym (p .mic-in .ensures) ∙ c .enum-told .given .1); octets = rw (sym (p .mic-in .ensures) ∙ c .enum-told .given .1) }
 
 sub-if1 : tie.Need-sub-if1
 sub-if1 c =
@@ -36,11 +36,11 @@ same-length-2 : tie.Need-same-length-2
 same-length-2 c = search needs
 
 returns-2 : tie.Need-returns-2
-unfolding setAnswer setOctets
+unfolding setNumber setOctets
 returns-2 c =
     let p = c .before .before in
     let q = p .before .before in
-    (rw (sym (q .mic-in .ensures) ∙ p .place .given .1, ne-eqb _ _ (c .if1 .taken)), rw (sym (q .mic-in .ensures) ∙ p .place .given .1, ne-eqb _ _ (c .if1 .taken)))
+    record { number = rw (sym (q .mic-in .ensures) ∙ p .place .given .1, ne-eqb _ _ (c .if1 .taken)); octets = rw (sym (q .mic-in .ensures) ∙ p .place .given .1, ne-eqb _ _ (c .if1 .taken)) }
 
 sub-copy-in : tie.Need-sub-copy-in
 sub-copy-in c =
@@ -70,14 +70,14 @@ same-length-3 : tie.Need-same-length-3
 same-length-3 c = search needs
 
 returns-3 : tie.Need-returns-3
-unfolding setAnswer setOctets
+unfolding setNumber setOctets
 returns-3 c =
     let p = c .before .before in
     let q = p .before .before in
     let r = q .before .before in
     let s = r .before .before in
     let u = s .before .before .before .before in
-    (rw (sym (s .mic-in .ensures) ∙ r .place .given .1, eq-eqb _ _ (q .if1 .left)), rw (sym (s .mic-in .ensures) ∙ r .place .given .1, eq-eqb _ _ (q .if1 .left)) (mic-set (u .args .body .now) (u .args .mic .now) _ (r .place .given .0 .0) (mic-lies (u .args .body .now) (r .place .given .0 .0) (sym (s .mic-in .ensures) ∙ r .place .given .1)) (q .if1 .left) (p .copy-in .ensures)))
+    record { number = rw (sym (s .mic-in .ensures) ∙ r .place .given .1, eq-eqb _ _ (q .if1 .left)); octets = rw (sym (s .mic-in .ensures) ∙ r .place .given .1, eq-eqb _ _ (q .if1 .left)) (mic-set (u .args .body .now) (u .args .mic .now) _ (r .place .given .0 .0) (mic-lies (u .args .body .now) (r .place .given .0 .0) (sym (s .mic-in .ensures) ∙ r .place .given .1)) (q .if1 .left) (p .copy-in .ensures)) }
 
 pub set-mic-spec : {M : Type 1} → statement M
 set-mic-spec =

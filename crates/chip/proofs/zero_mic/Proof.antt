@@ -2,7 +2,7 @@ use mathlib.Core.Path.{sym, _∙_}
 use native.Mathlib.Omega.{arith}
 use lib.ListN.{length-take, length-drop}
 use borrow.Author.Tests.{lt-ltb, le-ltb}
-use Rattle.chip.specs.Chip.{zeroAnswer, zeroed}
+use Rattle.chip.specs.Chip.{zeroNumber, zeroed}
 use Rattle.octets.proofs.Parts.{wrote-length}
 use Rattle.chip.proofs.Laws.{mic-lies, mic-zeroed}
 use borrow.Author.Needs.{needs}
@@ -19,17 +19,17 @@ enum-told : tie.Need-enum-told
 enum-told c = search needs
 
 returns : tie.Need-returns
-unfolding zeroAnswer zeroed
+unfolding zeroNumber zeroed
 returns c =
     let p = c .before .before in
-    (rw (sym (p .mic-in .ensures) ∙ c .enum-told .given .1), rw (sym (p .mic-in .ensures) ∙ c .enum-told .given .1))
+    record { number = rw (sym (p .mic-in .ensures) ∙ c .enum-told .given .1); octets = rw (sym (p .mic-in .ensures) ∙ c .enum-told .given .1) }
 
 returns-2 : tie.Need-returns-2
-unfolding zeroAnswer zeroed
+unfolding zeroNumber zeroed
 returns-2 c =
     let p = c .before .before in
     let q = p .before .before in
-    (rw (sym (q .mic-in .ensures) ∙ p .place .given .1, lt-ltb _ _ (c .if1 .taken)), rw (sym (q .mic-in .ensures) ∙ p .place .given .1, lt-ltb _ _ (c .if1 .taken)))
+    record { number = rw (sym (q .mic-in .ensures) ∙ p .place .given .1, lt-ltb _ _ (c .if1 .taken)); octets = rw (sym (q .mic-in .ensures) ∙ p .place .given .1, lt-ltb _ _ (c .if1 .taken)) }
 
 copy-in-requires : tie.Need-copy-in-requires
 copy-in-requires c κs = search needs
@@ -75,7 +75,7 @@ same-length : tie.Need-same-length
 same-length c = search needs
 
 returns-3 : tie.Need-returns-3
-unfolding zeroAnswer zeroed
+unfolding zeroNumber zeroed
 returns-3 c =
     let p = c .before .before in
     let q = p .before .before .before .before in
@@ -83,7 +83,7 @@ returns-3 c =
     let s = r .before .before in
     let u = s .before .before in
     let v = u .before .before .before in
-    (rw (sym (u .mic-in .ensures) ∙ s .place .given .1, le-ltb _ _ (r .if1 .left)), rw (sym (u .mic-in .ensures) ∙ s .place .given .1, le-ltb _ _ (r .if1 .left)) (mic-zeroed (v .args .body .now) (v .args .out .now) _ _ (s .place .given .0 .0) (mic-lies (v .args .body .now) (s .place .given .0 .0) (sym (u .mic-in .ensures) ∙ s .place .given .1)) (q .copy-in .ensures) (p .zero .ensures)))
+    record { number = rw (sym (u .mic-in .ensures) ∙ s .place .given .1, le-ltb _ _ (r .if1 .left)); octets = rw (sym (u .mic-in .ensures) ∙ s .place .given .1, le-ltb _ _ (r .if1 .left)) (mic-zeroed (v .args .body .now) (v .args .out .now) _ _ (s .place .given .0 .0) (mic-lies (v .args .body .now) (s .place .given .0 .0) (sym (u .mic-in .ensures) ∙ s .place .given .1)) (q .copy-in .ensures) (p .zero .ensures)) }
 
 pub zero-mic-spec : {M : Type 1} → statement M
 zero-mic-spec =

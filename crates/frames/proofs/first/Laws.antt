@@ -14,10 +14,10 @@ use Rattle.elements.specs.declared.Places.{Places}
 use Rattle.elements.specs.declared.Times.the-variants.{None, One}
 use Rattle.elements.specs.Scan.{scanOf}
 use Rattle.elements.specs.Within.{Lies}
-use Rattle.layouts.specs.declared.parameters.Side.the-variants.{Station}
-use Rattle.layouts.specs.declared.rsne.Rsne.{Rsne}
-use Rattle.layouts.specs.Parameters.{parametersOf}
-use Rattle.layouts.specs.Rsne.{rsneOf}
+use Rattle.parameters.specs.declared.Side.the-variants.{Station}
+use Rattle.rsne.specs.declared.Rsne.{Rsne}
+use Rattle.parameters.specs.Parameters.{parametersOf}
+use Rattle.rsne.specs.Rsne.{rsneOf}
 use Rattle.layouts.specs.Timeout.{timeoutOf}
 use Rattle.layouts.proofs.timeout.Laws.{timeout-asks}
 use Rattle.frames.specs.declared.contents.Lifetime.{Lifetime}

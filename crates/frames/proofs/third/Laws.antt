@@ -9,8 +9,8 @@ use Rattle.elements.specs.declared.Part.{Part}
 use Rattle.elements.specs.declared.Places.{Places}
 use Rattle.elements.specs.Scan.{scanOf}
 use Rattle.elements.specs.Within.{Lies}
-use Rattle.layouts.specs.declared.parameters.Side.the-variants.{Station}
-use Rattle.layouts.specs.Parameters.{parametersOf}
+use Rattle.parameters.specs.declared.Side.the-variants.{Station}
+use Rattle.parameters.specs.Parameters.{parametersOf}
 use Rattle.frames.specs.Contents.{content, extended, holds, isWalked, once, never, isParameters, noComeback, noKey}
 use Rattle.frames.specs.Third.{thirdOf}
 use Rattle.frames.specs.ByElement.{quietIn, micIn}

@@ -10,10 +10,10 @@ use Rattle.peers.proofs.put.Statement.{statement}
 use Rattle.peers.proofs.put.Tie as tie
 
 abbrev Inv-loop : tie.InvT-loop
-Inv-loop reading t₀ address next₀ i₀ t next i = Filling (taken reading address) next₀ t₀ next t i
+Inv-loop t₀ reading address next₀ i₀ t next i = Filling (taken reading address) next₀ t₀ next t i
 
 abbrev μ-loop : tie.MeasureT-loop
-μ-loop reading t₀ address next₀ i₀ t next i = 16 - i
+μ-loop t₀ reading address next₀ i₀ t next i = 16 - i
 
 loop-holds : tie.Need-loop-holds Inv-loop μ-loop
 loop-holds c = filling-begins _ _ _ (search (needs, long))
@@ -52,7 +52,7 @@ loop-again c =
     (c .if1 .came)
 
 returns : tie.Need-returns Inv-loop μ-loop
-returns c = puts _ (search (needs, long)) _ _ _ (filling-ends (taken _ _) (c .before .loop .inv) (c .loop-test .left)) (c .before .loop .inv .latest)
+returns c = puts _ (search (needs, long)) _ _ (filling-ends (taken _ _) (c .before .loop .inv) (c .loop-test .left)) (c .before .loop .inv .latest)
 
 pub put-spec : {M : Type 1} → statement M
 put-spec =

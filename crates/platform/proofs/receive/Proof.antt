@@ -2,7 +2,7 @@ use mathlib.Core.Path.{sym, ap, _∙_}
 use Rattle.rules.specs.OnePeer.{Call}
 use Rattle.rules.specs.Told.{callOf}
 use Rattle.rules.proofs.Checks.{checks-ready}
-use Rattle.calls.specs.Seen.{failure}
+use Rattle.checks.specs.Checked.{failure}
 use Rattle.platform.proofs.Finding.{is-place, sees}
 use Rattle.platform.proofs.Receiving.{received-early, received-same, received-gone, received-becomes}
 use borrow.Author.Needs.{needs}

@@ -1,4 +1,4 @@
-use Rattle.state.proofs.Writers.{copied}
+use Rattle.octets.proofs.Writers.{copied}
 use borrow.Author.Needs.{needs}
 use Rattle.unit.proofs.tell.Statement.{statement}
 use Rattle.unit.proofs.tell.Tie as tie

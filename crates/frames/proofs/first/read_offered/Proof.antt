@@ -1,6 +1,6 @@
 use mathlib.Core.Path.{refl, sym, _∙_}
 use native.Mathlib.Omega.{arith}
-use Rattle.layouts.specs.declared.parameters.Side.the-variants.{Station}
+use Rattle.parameters.specs.declared.Side.the-variants.{Station}
 use Rattle.frames.specs.ByElement.{offeredIn}
 use Rattle.frames.proofs.Inner.{key-lies}
 use Rattle.frames.proofs.Otherwise.{one-lies, not-one}

@@ -1,0 +1,3 @@
+pub mod Steps
+pub mod Accepting
+pub mod Replies

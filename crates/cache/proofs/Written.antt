@@ -1,14 +1,13 @@
 -- Reading shows what was written, and a file that reads well is what its records write.
 use mathlib.Core.Path.{_≡_, refl, sym, ap, _∙_}
 use mathlib.Core.List.{List, [], _∷_, _++_, append-assoc}
-use Prim.Native.Nat.{ℕ, zero, suc, _+_, _*_, _/_, _%_, _≤_}
+use Prim.Native.Nat.{ℕ, zero, suc, _+_, _≤_}
 use native.Mathlib.Nat.{add-zero}
-use native.Mathlib.Numerals.{add-one}
 use native.Mathlib.Omega.{arith}
 use lib.ListN.{length, getD, take, drop, length-append, length-drop, drop-of-length-le, take-append-drop}
 use lib.Seq.{drop-cons, drop-drop, length-take-le, getD-drop, take-at, drop-at, getD-at}
 use Rattle.octets.specs.Numbers.{le, octets}
-use Rattle.octets.proofs.Numbers.{le-drop, le-bound, reads-back}
+use Rattle.octets.proofs.Numbers.{le-drop, le-bound, reads-back, written-so}
 use Rattle.cache.specs.declared.Record.{Record}
 use Rattle.cache.specs.declared.Read.the-variants.{Stands, End}
 use Rattle.cache.specs.File.{readAt, Cached, cachedAt, records, cacheFrom, cacheOf}
@@ -16,17 +15,6 @@ use Rattle.octets.specs.Search.{Each}
 use Rattle.cache.specs.Written.{valueOctets, recordOctets, cacheOctets, AreOctets, Proper, ReadsBack, WrittenSo, ReadsWritable}
 use Rattle.cache.proofs.Records.{Whole, lying, read-end, read-record, ended, stood, within}
 use Rattle.cache.proofs.File.{from-by, holds-from}
-
--- A number's octets are those that it was read from.
-number-written : (w : ℕ) (s : List ℕ) (at : ℕ) → AreOctets s → at + w ≤ length s → drop at s ≡ octets w (le w s at) ++ drop (at + w) s
-unfolding le octets
-number-written zero s at o h = rw (add-zero at)
-number-written (suc w) s at o h =
-    let n : ℕ = getD s at 0 + 256 * le w s (at + 1) in
-    let low : n % 256 ≡ getD s at 0 = omega (arith, o at) in
-    let high : n / 256 ≡ le w s (at + 1) = omega (arith, o at) in
-    let e : at + 1 + w ≡ at + suc w = omega arith in
-    drop-cons s at 0 (omega arith) ∙ rw (low, high, ← add-one at, number-written w s (at + 1) o (omega arith), e)
 
 taken : (n : ℕ) (s : List ℕ) → AreOctets s → AreOctets (take n s)
 taken zero s o i = omega arith
@@ -40,7 +28,7 @@ module _ (file : List ℕ) (o : AreOctets file) where
   value-written v h =
       let a : suc (v + 16) ≡ v + 17 = omega arith in
       let b : v + 17 + 8 ≡ v + 25 = omega arith in
-      let end : drop (v + 17) file ≡ octets 8 (le 8 file (v + 17)) ++ drop (v + 25) file = rw b at (number-written 8 file (v + 17) o (omega arith)) in
+      let end : drop (v + 17) file ≡ octets 8 (le 8 file (v + 17)) ++ drop (v + 25) file = rw b at (written-so 8 file (v + 17) o (omega arith)) in
       let akm : drop (v + 16) file ≡ getD file (v + 16) 0 ∷ drop (v + 17) file = rw a at (drop-cons file (v + 16) 0 (omega arith)) in
       sym (take-append-drop 16 (drop v file)) ∙ rw (drop-drop 16 v file, akm, end) (simp append-assoc)
 
@@ -53,7 +41,7 @@ module _ (file : List ℕ) (o : AreOctets file) where
       let b : at + 1 + 2 ≡ at + 3 = omega arith in
       let c : at + 3 + 25 ≡ at + 28 = omega arith in
       let tag : drop at file ≡ 0x31 ∷ drop (at + 1) file = rw (w .tagged, a) at (drop-cons file at 0 (omega (arith, w .fits))) in
-      let long : drop (at + 1) file ≡ octets 2 25 ++ drop (at + 3) file = rw (w .told, b) at (number-written 2 file (at + 1) o (omega (arith, w .fits))) in
+      let long : drop (at + 1) file ≡ octets 2 25 ++ drop (at + 3) file = rw (w .told, b) at (written-so 2 file (at + 1) o (omega (arith, w .fits))) in
       let value : drop (at + 3) file ≡ valueOctets (cachedAt file (at + 3)) ++ drop (at + 28) file = rw c at (value-written (at + 3) (omega (arith, w .fits))) in
       rw (s .lies) (tag ∙ ap (λ (l : List ℕ). 0x31 ∷ l) (long ∙ ap (λ (l : List ℕ). octets 2 25 ++ l) value ∙ sym (append-assoc (octets 2 25) _ _)))
 

@@ -6,7 +6,7 @@ use native.Mathlib.Nat.{pow-succ', pow-le-pow-right, add-zero}
 use native.Mathlib.Numerals.{add-one}
 use native.Mathlib.Omega.{arith}
 use lib.ListN.{length, getD, take, drop, List·getD-append}
-use lib.Seq.{getD-drop, getD-take, getD-append-add}
+use lib.Seq.{drop-cons, getD-drop, getD-take, getD-append-add}
 use Rattle.octets.specs.Numbers.{le, octets}
 
 -- Reading looks at its own octets only.
@@ -71,6 +71,17 @@ reads-back w n before after h =
     ∙ le-append-right w before (octets w n ++ after) 0
     ∙ le-append-left w (octets w n) after 0 (omega (arith, length-octets w n))
     ∙ le-octets w n h
+
+-- A number's octets are those that it was read from.
+pub written-so : (w : ℕ) (s : List ℕ) (at : ℕ) → ((i : ℕ) → getD s i 0 < 256) → at + w ≤ length s → drop at s ≡ octets w (le w s at) ++ drop (at + w) s
+unfolding le octets
+written-so zero s at small h = rw (add-zero at)
+written-so (suc w) s at small h =
+    let n : ℕ = getD s at 0 + 256 * le w s (at + 1) in
+    let low : n % 256 ≡ getD s at 0 = omega (arith, small at) in
+    let high : n / 256 ≡ le w s (at + 1) = omega (arith, small at) in
+    let next : at + 1 + w ≡ at + suc w = omega arith in
+    drop-cons s at 0 (omega arith) ∙ rw (low, high, ← add-one at, written-so w s (at + 1) small (omega arith), next)
 
 -- A loop that reads from the highest octet down: the number at one place lower.
 pub le-lower : (s : List ℕ) (at w left : ℕ) → 0 < left → left ≤ w

@@ -14,7 +14,7 @@ use Rattle.opening.specs.declared.Decided.{Decided}
 use Rattle.opening.specs.declared.Decision.{Decision}
 use Rattle.rules.specs.OnePeer.{pass, Passed, listed, smallestBuffer, steps, refusal, acceptance, firstOutcome}
 use Rattle.rules.proofs.Inversion.{Passes, passes}
-use Rattle.opening.specs.Decided.{passedOf, decidedBy, decidedOf, Writable}
+use Rattle.opening.specs.Decided.{passedOf, decidedBy, decidedOf, ReplyFits}
 
 -- what a second frame needs of the tables
 pub record Fitting (p : Passed) : Type 0 where
@@ -39,7 +39,7 @@ module _ (brought : Brought) (d : Decided) (file key body : List ℕ) (algorithm
     pub accepted-same : acceptance brought key algorithm (passedOf a (d .pmkid)) ≡ firstOutcome brought key algorithm waiting (steps brought file body full)
     accepted-same = rw passing
 
-    pub writable : (pmkids : List ℕ) (n : ℕ) → pmkids ≡ listed (passedOf a (d .pmkid)) → length pmkids ≤ pmkidSize → smallestBuffer ≤ n → Writable (passedOf a (d .pmkid)) pmkids key n
-    writable pmkids n e h k =
+    pub reply-fits : (pmkids : List ℕ) (n : ℕ) → pmkids ≡ listed (passedOf a (d .pmkid)) → length pmkids ≤ pmkidSize → smallestBuffer ≤ n → ReplyFits (passedOf a (d .pmkid)) pmkids key n
+    reply-fits pmkids n e h k =
         let f = fitting (passes brought file body full passing) in
         record { one = e; short = h; mic = f .mic; keys = f .keys key; room = k }

@@ -40,7 +40,7 @@ withSuites brought cache body full facts cipher akm = do
   withKey brought cache body full facts cipher akm group
 
 -- the second frame of what passed, with these PMKIDs, fits its elements and a buffer of n octets
-pub record Writable (passed : Passed) (pmkids key : List ℕ) (n : ℕ) : Type 0 where
+pub record ReplyFits (passed : Passed) (pmkids key : List ℕ) (n : ℕ) : Type 0 where
   pub one : pmkids ≡ listed passed
   pub short : length pmkids ≤ pmkidSize
   pub mic : passed .mic ≤ longestMic

@@ -8,7 +8,7 @@ ghost use Rattle.frames.specs.First.{FactsLie};
 ghost use Rattle.writers.specs.Header.{headerSize};
 ghost use Rattle.rules.specs.OnePeer.{refuse, steps, leftBy, refusal, acceptance, firstOutcome};
 ghost use Rattle.rules.specs.Told.{leavesOf, Gets, Timely, Ready};
-ghost use Rattle.opening.specs.Decided.{passedOf, decidedOf, withKey, withSuites, Writable};
+ghost use Rattle.opening.specs.Decided.{passedOf, decidedOf, withKey, withSuites, ReplyFits};
 use frames::first::Facts;
 use frames::first::First;
 use peers::Agreed;
@@ -182,7 +182,7 @@ fn accept(
     key: &[u8],
     reply: &mut [u8],
 ) -> Verdict
-    requires { ⌜ Timely brought × Writable (passedOf accepted pmkid) (now pmkids) (now key) (length (now reply)) ⌝ }
+    requires { ⌜ Timely brought × ReplyFits (passedOf accepted pmkid) (now pmkids) (now key) (length (now reply)) ⌝ }
     ensures { λ r. ⌜ Gets (acceptance brought (now (key .entry)) algorithm (passedOf accepted pmkid)) (now (reply .entry)) (now (reply .exit)) r ⌝ }
 {
     let group = accepted.group;

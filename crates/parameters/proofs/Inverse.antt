@@ -3,9 +3,8 @@ use mathlib.Core.Path.{_≡_, refl, sym, ap, ap₂, _∙_}
 use mathlib.Core.Bool.{not}
 use mathlib.Core.List.{List, [], _∷_, _++_, append-assoc, append-nil}
 use mathlib.Core.Option.{Option, none, some}
-use Prim.Native.Nat.{ℕ, zero, suc, _+_, _-_, _*_, _/_, _%_, _^_, _<_, _≤_}
+use Prim.Native.Nat.{ℕ, suc, _+_, _-_, _*_, _/_, _%_, _^_, _<_, _≤_}
 use native.Mathlib.Omega.{arith}
-use native.Mathlib.Nat.{add-zero}
 use native.Mathlib.Numerals.{add-one}
 use borrow.Author.Tests.{le-ltb, lt-leb, eq-eqb, ne-eqb, ltb-false, leb-false, eqb-true, eqb-false, not-false}
 use lib.Dec.{leb, ltb, eqb}
@@ -13,7 +12,7 @@ use lib.ListN.{length, take, drop, getD, length-append, take-append-drop, length
 use lib.Seq.{length-take-le, drop-cons, drop-drop, take-at, drop-at, getD-at, drop-length, take-length}
 use Rattle.octets.specs.Numbers.{le, octets}
 use Rattle.octets.proofs.Choice.{either-way, unless}
-use Rattle.octets.proofs.Numbers.{reads-back, length-octets}
+use Rattle.octets.proofs.Numbers.{reads-back, length-octets, written-so}
 use Rattle.elements.specs.declared.Part.{Part}
 use Rattle.parameters.specs.declared.Side.{Side}
 use Rattle.parameters.specs.declared.Side.the-variants.{Station, AccessPoint}
@@ -159,20 +158,7 @@ written-reads-back side said after group = go side (said .comeback) (said .forma
               (seam 5 s cookie (offerOctets offer) refl) (offer-says bits format (octets 2 after ++ counted cookie) offer);
         }
 
--- What stands at a place of a string: a number of w octets, and a length octet with its octets.
-number-at : (w : ℕ) (s : List ℕ) (at : ℕ) → ((i : ℕ) → getD s i 0 < 256) → at + w ≤ length s → drop at s ≡ octets w (le w s at) ++ drop (at + w) s
-unfolding le octets
-number-at zero s at small h = ap (λ (k : ℕ). drop k s) (sym (add-zero at))
-number-at (suc w) s at small h =
-    let x : ℕ = getD s at 0 in
-    let r : ℕ = le w s (at + 1) in
-    let low : (x + 256 * r) % 256 ≡ x = omega (arith, small at) in
-    let rest : (x + 256 * r) / 256 ≡ r = omega (arith, small at) in
-    let next : at + 1 + w ≡ at + suc w = omega arith in
-    drop-cons s at 0 (omega arith)
-    ∙ ap (λ (l : List ℕ). x ∷ l) (ap (λ (k : ℕ). drop k s) (sym (add-one at)) ∙ number-at w s (at + 1) small (omega arith))
-    ∙ rw (low, rest, next)
-
+-- What stands at a place of a string: a length octet with its octets.
 counted-at : (s : List ℕ) (at : ℕ) → at + 1 + getD s at 0 ≤ length s
     → drop at s ≡ counted (take (at + 1 + getD s at 0 - (at + 1)) (drop (at + 1) s)) ++ drop (at + 1 + getD s at 0) s
 counted-at s at h =
@@ -217,7 +203,7 @@ module _ (side : Side) (s : List ℕ) (small : (i : ℕ) → getD s i 0 < 256) (
         let key : drop (at + 2) s ≡ counted (take (length s - (at + 3)) (drop (at + 3) s)) =
         rw (n, k, drop-length s, append-nil (take (length s - (at + 3)) (drop (at + 3) s))) at (counted-at s (at + 2) (omega arith)) in
         offer-was (some (le 2 s at, take (length s - (at + 3)) (drop (at + 3) s))) (omega (arith, eqb-false (bit1 s) 0 with))
-        (number-at 2 s at small (omega arith) ∙ ap (λ (l : List ℕ). octets 2 (le 2 s at) ++ l) key))
+        (written-so 2 s at small (omega arith) ∙ ap (λ (l : List ℕ). octets 2 (le 2 s at) ++ l) key))
 
 -- what comes with B0
 abbrev cookieAt : List ℕ → ℕ → Part
@@ -244,7 +230,7 @@ module _ (s : List ℕ) (small : (i : ℕ) → getD s i 0 < 256) (two : 2 ≤ le
       octets-of Station h = counted-at s 2 h
       octets-of AccessPoint h =
           let cookie : List ℕ = take (4 + 1 + getD s 4 0 - (4 + 1)) (drop (4 + 1) s) in
-          number-at 2 s 2 small (omega arith) ∙ ap (λ (l : List ℕ). octets 2 (le 2 s 2) ++ l) (counted-at s 4 h)
+          written-so 2 s 2 small (omega arith) ∙ ap (λ (l : List ℕ). octets 2 (le 2 s 2) ++ l) (counted-at s 4 h)
           ∙ sym (append-assoc (octets 2 (le 2 s 2)) (counted cookie) (drop (4 + 1 + getD s 4 0) s))
 
 pub read-was-written : WhatIsReadWasWritten

@@ -1,5 +1,5 @@
 -- Laws by which PASN Parameters are read and written, and where what is read lies in the content.
-use mathlib.Core.Path.{_≡_, refl, sym, ap, ap₂, _∙_}
+use mathlib.Core.Path.{_≡_, refl, ap₂}
 use mathlib.Core.Bool.{not}
 use mathlib.Core.List.{List, [], _∷_, _++_, append-assoc}
 use mathlib.Core.Option.{Option, none, some}
@@ -8,10 +8,10 @@ use native.Mathlib.Omega.{arith}
 use borrow.Author.Tests.{ltb-false, leb-false}
 use lib.Dec.{leb, ltb, eqb}
 use lib.ListN.{length, drop, getD, length-append}
-use lib.Seq.{drop-at}
 use Rattle.octets.specs.Numbers.{octets}
 use Rattle.octets.specs.Wrote.{Wrote}
 use Rattle.octets.proofs.Choice.{either-way, unless}
+use Rattle.octets.proofs.Writers.{wrote-over}
 use Rattle.elements.specs.declared.Part.{Part}
 use Rattle.elements.specs.Within.{Lies}
 use Rattle.parameters.specs.declared.Side.{Side}
@@ -46,20 +46,6 @@ control-by written cookie key = ap₂ (λ (m n : ℕ). m + 2 * n) (comeback (wri
     offer : (k : OfferToWrite) → bit (offerBy k []) ≡ bit (offerBy k key)
     offer (OfferToWrite.Key group) = refl
     offer OfferToWrite.Absent = refl
-
--- other octets, as many, written over the front of what was written
-wrote-over : (a rest : List ℕ) {b before mid after : List ℕ} {n k : ℕ} → length a ≡ length b → Wrote (a ++ rest) n before mid → Wrote b k mid after
-    → Wrote (b ++ rest) n before after
-wrote-over a rest {b} {before} e w v =
-    let n : length (a ++ rest) ≡ length (b ++ rest) = length-append a rest ∙ omega (arith, length-append b rest) in
-    record {
-      tells = w .tells ∙ n;
-      leaves = v .leaves
-          ∙ ap (λ (l : List ℕ). b ++ drop (length b) l) (w .leaves ∙ append-assoc a rest (drop (length (a ++ rest)) before))
-          ∙ ap (λ (l : List ℕ). b ++ l) (drop-at a (rest ++ drop (length (a ++ rest)) before) (length b) e)
-          ∙ ap (λ (k : ℕ). b ++ (rest ++ drop k before)) n
-          ∙ sym (append-assoc b rest (drop (length (b ++ rest)) before));
-    }
 
 module _ (side : Side) (said : Said side) where
   pub length-content : length (contentOctets side said) ≡ length (comebackOctets side (said .comeback)) + length (offerOctets (said .offer)) + 2

@@ -1,10 +1,12 @@
 // The call records: each makes its call and prints its line.
 ghost use Prim.Native.Nat.{_≤_};
 ghost use lib.ListN.{length};
+use crate::lines;
 use crate::setup::ANY;
 use crate::setup::LONGEST_BUFFER;
 use crate::setup::LONGEST_LENT;
 use crate::setup::Setup;
+use crate::text;
 use peers::Table;
 use rules::Answer;
 use rules::Brought;
@@ -207,7 +209,7 @@ fn empty(t: Table, value: &[u8]) -> Called {
     if value.len() != 0 {
         return refuse(t);
     }
-    lines::text::put(b"empty\n");
+    text::put(b"empty\n");
     done(platform::empty())
 }
 

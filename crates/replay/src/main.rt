@@ -1,6 +1,8 @@
 // Replays the call log on standard input: makes its calls, from the empty table on, and prints a line for each.
 mod calls;
+mod lines;
 mod setup;
+mod text;
 
 ghost use Prim.Native.Nat.{_≤_};
 ghost use lib.ListN.{length};
@@ -182,13 +184,13 @@ fn is_on(s: State) -> bool {
 fn put_last(s: State) {
     let going = s.going;
     if let Going::Bad = going {
-        lines::text::put(b"bad ");
-        lines::text::put_number(s.place);
+        text::put(b"bad ");
+        text::put_number(s.place);
     } else {
-        lines::text::put(b"counted ");
-        lines::text::put_number(s.counted);
+        text::put(b"counted ");
+        text::put_number(s.counted);
     }
-    lines::text::put(b"\n");
+    text::put(b"\n");
 }
 
 fn main() {

@@ -29,7 +29,7 @@ abbrev pub longestSecond : ℕ
 longestSecond = secondSize pmkidSize longestKey longestMic
 
 -- p octets of PMKIDs and k of a key fit their elements, and all of it a buffer of n
-pub record Fits (chosen : Chosen) (p k n : ℕ) : Type 0 where
+pub record SecondFits (chosen : Chosen) (p k n : ℕ) : Type 0 where
   pub pmkids : p < 230
   pub key : k < 250
   pub mic : chosen .mic < 256

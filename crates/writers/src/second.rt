@@ -2,7 +2,7 @@
 ghost use mathlib.Core.Path.{_≡_};
 ghost use lib.ListN.{length};
 ghost use Rattle.octets.specs.Wrote.{Wrote};
-ghost use Rattle.writers.specs.Second.{Fits, longestSecond, secondOctets};
+ghost use Rattle.writers.specs.Second.{SecondFits, longestSecond, secondOctets};
 use crate::header;
 use layouts::mic;
 use layouts::timeout;
@@ -43,7 +43,7 @@ pub struct Chosen {
 }
 
 pub fn put(d: &mut [u8], chosen: Chosen, pmkids: &[u8], key: &[u8]) -> usize
-    requires { ⌜ Fits chosen (length (now pmkids)) (length (now key)) (length (now d)) ⌝ }
+    requires { ⌜ SecondFits chosen (length (now pmkids)) (length (now key)) (length (now d)) ⌝ }
     ensures { λ r. ⌜ Wrote (secondOctets chosen (now (pmkids .entry)) (now (key .entry))) r (now (d .entry)) (now (d .exit)) ⌝ }
 {
     let lifetime = chosen.lifetime;

@@ -2,7 +2,7 @@ use mathlib.Core.Path.{_≡_}
 use native.Mathlib.Omega.{arith}
 use lib.ListN.{length}
 use Prim.Native.Nat.{ℕ}
-use Rattle.opening.proofs.Accepting.{refused-same, accepted-same, writable}
+use Rattle.opening.proofs.Accepting.{refused-same, accepted-same, reply-fits}
 use Rattle.rules.proofs.Verdicts.{gets-same}
 use borrow.Author.Needs.{length-unmapped}
 use borrow.Author.Needs.{needs}
@@ -29,7 +29,7 @@ accept-requires c κs =
     let a = c .before .before .before .before .before .before .before .before .before .before .before .before .before .args in
     let d = c .before .before .before .before .before .before .before .before .decide in
     let n : length (d .result .pmkid) ≡ 16 = length-unmapped ℕ (d .result .pmkid) 16 (search needs) in
-    (c .before .before .before .before .before .before .before .before .before .before .before .before .before .pre .timely, writable (a .brought) (d .result) (a .file .now) (a .key .now) (a .body .now) (a .algorithm) (a .full) (a .waiting) (d .ensures) (c .before .before .before .before .before .decision2 .given .1) (d .result .pmkid) _ (rw (c .before .before .if1 .taken)) (omega arith) (c .before .before .before .before .before .before .before .before .before .before .before .before .before .pre .room))
+    (c .before .before .before .before .before .before .before .before .before .before .before .before .before .pre .timely, reply-fits (a .brought) (d .result) (a .file .now) (a .key .now) (a .body .now) (a .algorithm) (a .full) (a .waiting) (d .ensures) (c .before .before .before .before .before .decision2 .given .1) (d .result .pmkid) _ (rw (c .before .before .if1 .taken)) (omega arith) (c .before .before .before .before .before .before .before .before .before .before .before .before .before .pre .room))
 
 same-length : tie.Need-same-length
 same-length c = search needs
@@ -50,7 +50,7 @@ accept-requires-2 : tie.Need-accept-requires-2
 accept-requires-2 c κs =
     let a = c .before .before .before .before .before .before .before .before .before .before .before .before .before .args in
     let d = c .before .before .before .before .before .before .before .before .decide in
-    (c .before .before .before .before .before .before .before .before .before .before .before .before .before .pre .timely, writable (a .brought) (d .result) (a .file .now) (a .key .now) (a .body .now) (a .algorithm) (a .full) (a .waiting) (d .ensures) (c .before .before .before .before .before .decision2 .given .1) _ _ (rw (c .before .before .if1 .left)) (omega arith) (c .before .before .before .before .before .before .before .before .before .before .before .before .before .pre .room))
+    (c .before .before .before .before .before .before .before .before .before .before .before .before .before .pre .timely, reply-fits (a .brought) (d .result) (a .file .now) (a .key .now) (a .body .now) (a .algorithm) (a .full) (a .waiting) (d .ensures) (c .before .before .before .before .before .decision2 .given .1) _ _ (rw (c .before .before .if1 .left)) (omega arith) (c .before .before .before .before .before .before .before .before .before .before .before .before .before .pre .room))
 
 same-length-2 : tie.Need-same-length-2
 same-length-2 c = search needs

@@ -1,6 +1,6 @@
 use mathlib.Core.Path.{refl}
 use Prim.Native.Nat.{_*_}
-use Rattle.steps.proofs.Copied.{copied}
+use Rattle.octets.proofs.Writers.{copied-between}
 use borrow.Author.Needs.{needs}
 use Rattle.steps.proofs.pmkid_at.Statement.{statement}
 use Rattle.steps.proofs.pmkid_at.Tie as tie
@@ -29,7 +29,7 @@ copy-in-requires c κs = search needs
 returns : tie.Need-returns
 returns c =
     let p = c .before .before .before .before .before in
-    copied (p .args .pmkids .now) (16 * p .args .k) 16 (p .pre) refl (c .before .copy-in .ensures)
+    copied-between (p .args .pmkids .now) (16 * p .args .k) 16 (c .before .copy-in .ensures) refl (p .pre)
 
 pub pmkid-at-spec : {M : Type 1} → statement M
 pmkid-at-spec =

@@ -11,7 +11,7 @@ use Rattle.parameters.proofs.Laws.{length-with-key}
 use Rattle.rsne.proofs.Laws.{length-rsne}
 use Rattle.layouts.proofs.timeout.Laws.{length-timeout}
 use Rattle.writers.specs.declared.second.Chosen.{Chosen}
-use Rattle.writers.specs.Second.{secondOctets, secondSize, longestSecond, Fits}
+use Rattle.writers.specs.Second.{secondOctets, secondSize, longestSecond, SecondFits}
 use Rattle.writers.proofs.header.Laws.{length-header}
 
 pub length-second : (chosen : Chosen) (pmkids key : List ℕ) → length (secondOctets chosen pmkids key) ≡ secondSize (length pmkids) (length key) (chosen .mic)
@@ -19,5 +19,5 @@ unfolding secondOctets
 length-second chosen pmkids key = simp (length-append, length-header, length-rsne, length-timeout, length-with-key, length-mic) (omega arith)
 
 -- One PMKID at most, and a key and a MIC of the tables.
-pub longest-fits : {chosen : Chosen} {p k n : ℕ} → p ≤ pmkidSize → k ≤ longestKey → chosen .mic ≤ longestMic → longestSecond ≤ n → Fits chosen p k n
+pub longest-fits : {chosen : Chosen} {p k n : ℕ} → p ≤ pmkidSize → k ≤ longestKey → chosen .mic ≤ longestMic → longestSecond ≤ n → SecondFits chosen p k n
 longest-fits hp hk hm hn = record { pmkids = omega arith; key = omega arith; mic = omega arith; room = omega arith }

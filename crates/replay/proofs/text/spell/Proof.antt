@@ -4,8 +4,8 @@ use mathlib.Core.Path.{_≡_}
 use native.Mathlib.Omega.{arith}
 use borrow.Author.Needs.{needs}
 use lib.ListN.{length, length-set}
-use Rattle.lines.proofs.text.spell.Statement.{statement}
-use Rattle.lines.proofs.text.spell.Tie as tie
+use Rattle.replay.proofs.text.spell.Statement.{statement}
+use Rattle.replay.proofs.text.spell.Tie as tie
 
 abbrev Inv-loop : tie.InvT-loop
 Inv-loop s digits₀ i₀ digits i = (i ≤ length s) × (length digits₀ ≡ length digits)

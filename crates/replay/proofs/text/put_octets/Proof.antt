@@ -1,8 +1,8 @@
 use Prim.Native.Nat.{_-_}
 use borrow.Author.Needs.{needs}
 use lib.ListN.{length}
-use Rattle.lines.proofs.text.put_octets.Statement.{statement}
-use Rattle.lines.proofs.text.put_octets.Tie as tie
+use Rattle.replay.proofs.text.put_octets.Statement.{statement}
+use Rattle.replay.proofs.text.put_octets.Tie as tie
 
 abbrev Inv-loop : tie.InvT-loop
 Inv-loop s at₀ at = Unit {0}

@@ -1,15 +1,13 @@
-// The line of each call of a log, on standard output.
-pub mod text;
-
+// The line of each call.
+use crate::text::put;
+use crate::text::put_number;
+use crate::text::put_octets;
 use chip::MicAnswer;
 use peers::Peer;
 use peers::Phase;
 use rules::Answer;
 use rules::LookUp;
 use rules::Removal;
-use text::put;
-use text::put_number;
-use text::put_octets;
 
 fn put_status(answer: Answer) {
     match answer {

@@ -14,13 +14,14 @@ use Rattle.octets.specs.Wrote.{Wrote}
 use Rattle.octets.proofs.Parts.{wrote-front, wrote-more}
 use Rattle.elements.specs.declared.Opened.{Opened}
 use Rattle.elements.specs.declared.Part.{Part}
-use Rattle.elements.specs.declared.Scan.{Scan}
-use Rattle.elements.specs.declared.Times.{Times}
-use Rattle.elements.specs.declared.Times.the-variants.{None, One, More}
+use Rattle.scan.specs.declared.Scan.{Scan}
+use Rattle.scan.specs.declared.Times.{Times}
+use Rattle.scan.specs.declared.Times.the-variants.{None, One, More}
 use Rattle.elements.specs.Body.{bodyOf}
-use Rattle.elements.specs.Scan.{scanOf}
-use Rattle.elements.specs.Within.{Lies, LiesIf}
-use Rattle.elements.proofs.Scanning.{within}
+use Rattle.scan.specs.Scan.{scanOf}
+use Rattle.elements.specs.Lies.{Lies}
+use Rattle.scan.specs.Within.{LiesIf}
+use Rattle.scan.proofs.Scanning.{within}
 use Rattle.suites.specs.declared.GroupEntry.{GroupEntry}
 use Rattle.suites.specs.Tables.{isMicLength, groupOf, isKeyOf}
 use Rattle.frames.specs.declared.first.Facts.{Facts}

@@ -12,14 +12,14 @@ use Rattle.octets.specs.Choice.{if_then_else_}
 use Rattle.octets.proofs.Choice.{either-way}
 use Rattle.elements.specs.declared.Opened.{Opened}
 use Rattle.elements.specs.declared.Part.{Part}
-use Rattle.elements.specs.declared.Scan.{Scan}
-use Rattle.elements.specs.declared.Times.{Times}
-use Rattle.elements.specs.declared.Times.the-variants.{None, One, More}
+use Rattle.scan.specs.declared.Scan.{Scan}
+use Rattle.scan.specs.declared.Times.{Times}
+use Rattle.scan.specs.declared.Times.the-variants.{None, One, More}
 use Rattle.elements.specs.Body.{bodyOf}
-use Rattle.elements.specs.Scan.{scanOf}
+use Rattle.scan.specs.Scan.{scanOf}
 use Rattle.elements.specs.Walk.{walkBody}
-use Rattle.elements.specs.Within.{Lies}
-use Rattle.elements.proofs.Unread.{SameBut, Inside, SomeOf, InsideIf, SameRead, same-read, mic-inside}
+use Rattle.elements.specs.Lies.{Lies}
+use Rattle.scan.proofs.Unread.{SameBut, Inside, SomeOf, InsideIf, SameRead, same-read, mic-inside}
 use Rattle.suites.specs.Tables.{isMicLength}
 use Rattle.chip.specs.declared.MicPlace.{MicPlace}
 use Rattle.chip.specs.declared.MicPlace.the-variants.{At, Nowhere}

@@ -9,11 +9,11 @@ use lib.ListN.{length, take, drop, replicate}
 use Rattle.octets.specs.Choice.{if_then_else_}
 use Rattle.elements.specs.declared.Opened.{Opened}
 use Rattle.elements.specs.declared.Part.{Part}
-use Rattle.elements.specs.declared.Scan.{Scan}
-use Rattle.elements.specs.declared.Times.{Times}
-use Rattle.elements.specs.declared.Times.the-variants.{None, One, More}
+use Rattle.scan.specs.declared.Scan.{Scan}
+use Rattle.scan.specs.declared.Times.{Times}
+use Rattle.scan.specs.declared.Times.the-variants.{None, One, More}
 use Rattle.elements.specs.Body.{bodyOf}
-use Rattle.elements.specs.Scan.{scanOf}
+use Rattle.scan.specs.Scan.{scanOf}
 use Rattle.suites.specs.declared.GroupEntry.{GroupEntry}
 use Rattle.suites.specs.Tables.{isMicLength, groupOf, isKeyOf}
 use Rattle.frames.specs.declared.first.Facts.{Facts}

@@ -1,17 +1,18 @@
 // What the radio chip needs of a body: the key of a first frame to check, the MIC zeroed for its input, and the MIC set.
 ghost use mathlib.Core.Path.{_≡_};
 ghost use lib.ListN.{length};
-ghost use Rattle.elements.specs.Scan.{scanOf};
-ghost use Rattle.elements.specs.Within.{Lies, Ordered};
+ghost use Rattle.scan.specs.Scan.{scanOf};
+ghost use Rattle.elements.specs.Lies.{Lies};
+ghost use Rattle.scan.specs.Within.{Ordered};
 ghost use Rattle.suites.specs.Tables.{groupOf};
 ghost use Rattle.chip.specs.Chip.{keyWith, micAt, micScanned, micIn, micNumber, ShowsKey, ZeroesMic, SetsMic};
 use elements::Opened;
 use elements::PASN;
 use elements::Part;
-use elements::Scan;
-use elements::Times;
 use frames::first;
 use frames::first::First;
+use scan::Scan;
+use scan::Times;
 use suites::GroupEntry;
 
 // The empty part at place 0.
@@ -78,7 +79,7 @@ fn mic_at(mic: Times) -> MicPlace
 fn mic_scanned(body: &[u8]) -> MicPlace
     ensures { λ r. ⌜ r ≡ micScanned (scanOf (now (body .entry))) ⌝ }
 {
-    let scan = elements::scan_body(body);
+    let scan = scan::scan_body(body);
     let Scan::Walked(places) = scan else {
         return MicPlace::Nowhere;
     };

@@ -9,7 +9,7 @@ use lib.ListN.{replicate}
 use Rattle.octets.specs.Numbers.{le}
 use Rattle.octets.specs.Search.{first}
 use Rattle.elements.specs.Body.{bodyOf}
-use Rattle.elements.specs.Scan.{scanOf}
+use Rattle.scan.specs.Scan.{scanOf}
 use Rattle.suites.specs.Suite.{suiteAt}
 use Rattle.suites.specs.Tables.{akmOf, cipherOf, groupOf, isKeyOf}
 use Rattle.parameters.specs.Parameters.{parametersOf}

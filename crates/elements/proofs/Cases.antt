@@ -6,11 +6,8 @@ use lib.ListN.{replicate}
 use Rattle.octets.specs.Numbers.{le}
 use Rattle.elements.specs.declared.Extension.the-variants.{Id, Absent}
 use Rattle.elements.specs.declared.Opened.the-variants.{Body, NoBody}
-use Rattle.elements.specs.declared.Times.the-variants.{None, One, More}
-use Rattle.elements.specs.declared.Scan.{Scan}
 use Rattle.elements.specs.Body.{bodyOf}
 use Rattle.elements.specs.Walk.{walked, failedAt, walkBody}
-use Rattle.elements.specs.Scan.{scanOf}
 
 abbrev header : List ℕ
 header = 7 ∷ 0 ∷ 3 ∷ 0 ∷ 0 ∷ 0 ∷ []
@@ -58,16 +55,3 @@ empty-extended = refl
 pub no-body : walkBody (replicate 5 0) ≡ failedAt 0
 unfolding walkBody
 no-body = refl
-
--- two MICs, an element that is skipped, Wrapped Data, and ID 48 as an extension ID
-pub several : scanOf (header ++ (140 ∷ 1 ∷ 7 ∷ 1 ∷ 0 ∷ 140 ∷ 0 ∷ 255 ∷ 2 ∷ 8 ∷ 9 ∷ 255 ∷ 1 ∷ 48 ∷ []))
-    ≡ Scan.Walked (record {
-      rsne = None;
-      timeout = None;
-      mic = More (record { start = 8; end = 9 });
-      fragment = None;
-      parameters = None;
-      wrapped = One (record { start = 15; end = 17 });
-    })
-unfolding scanOf
-several = refl

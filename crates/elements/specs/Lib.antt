@@ -1,6 +1,4 @@
 pub mod Body
 pub mod Met
 pub mod Walk
-pub mod Scan
-pub mod Noting
-pub mod Within
+pub mod Lies

@@ -6,10 +6,11 @@ use Prim.Native.Nat.{ℕ}
 use native.Mathlib.Omega.{arith}
 use denote.Enum.Declared.{tagOf}
 use Rattle.elements.specs.declared.Part.{Part}
-use Rattle.elements.specs.declared.Times.{Times}
-use Rattle.elements.specs.declared.Times.the-variants.{None, One, More}
-use Rattle.elements.specs.Within.{Lies, LiesIf, Ordered}
-use Rattle.elements.proofs.Times as Times'
+use Rattle.scan.specs.declared.Times.{Times}
+use Rattle.scan.specs.declared.Times.the-variants.{None, One, More}
+use Rattle.elements.specs.Lies.{Lies}
+use Rattle.scan.specs.Within.{LiesIf, Ordered}
+use Rattle.scan.proofs.Times as Times'
 use Rattle.parameters.specs.declared.Comeback.{Comeback}
 use Rattle.parameters.proofs.Comeback as Comeback'
 use Rattle.frames.specs.Contents.{never, noComeback}

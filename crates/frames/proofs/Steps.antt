@@ -6,13 +6,13 @@ use Prim.Native.Nat.{ℕ}
 use lib.ListN.{length}
 use Rattle.units.specs.declared.Seconds.{Seconds}
 use Rattle.elements.specs.declared.Part.{Part}
-use Rattle.elements.specs.declared.Places.{Places}
-use Rattle.elements.specs.declared.Scan.{Scan}
-use Rattle.elements.specs.declared.Times.{Times}
-use Rattle.elements.specs.declared.Times.the-variants.{None, One, More}
-use Rattle.elements.specs.Scan.{scanOf}
-use Rattle.elements.specs.Within.{Within}
-use Rattle.elements.proofs.Scanning.{within}
+use Rattle.scan.specs.declared.Places.{Places}
+use Rattle.scan.specs.declared.Scan.{Scan}
+use Rattle.scan.specs.declared.Times.{Times}
+use Rattle.scan.specs.declared.Times.the-variants.{None, One, More}
+use Rattle.scan.specs.Scan.{scanOf}
+use Rattle.scan.specs.Within.{Within}
+use Rattle.scan.proofs.Scanning.{within}
 use Rattle.parameters.specs.declared.Offer.{Offer}
 use Rattle.parameters.specs.declared.Parameters.{Parameters}
 use Rattle.parameters.specs.declared.Reading as parameters

@@ -5,7 +5,7 @@ use mathlib.Core.Option.{Option, none, some}
 use lib.Dec.{eqb, ltb}
 use Rattle.octets.specs.Maybe.{_>>=_}
 use Rattle.elements.specs.declared.Part.{Part}
-use Rattle.elements.specs.declared.Times.{Times}
+use Rattle.scan.specs.declared.Times.{Times}
 use Rattle.parameters.specs.declared.Side.the-variants.{Station}
 use Rattle.rsne.specs.declared.Rsne.{Rsne}
 use Rattle.parameters.specs.Parameters.{parametersOf}

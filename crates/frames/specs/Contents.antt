@@ -6,10 +6,10 @@ use mathlib.Core.Option.{Option, none, some}
 use lib.ListN.{take, drop}
 use Rattle.units.specs.declared.Seconds.{Seconds}
 use Rattle.elements.specs.declared.Part.{Part}
-use Rattle.elements.specs.declared.Places.{Places}
-use Rattle.elements.specs.declared.Scan.{Scan}
-use Rattle.elements.specs.declared.Times.{Times}
-use Rattle.elements.specs.declared.Times.the-variants.{None, One, More}
+use Rattle.scan.specs.declared.Places.{Places}
+use Rattle.scan.specs.declared.Scan.{Scan}
+use Rattle.scan.specs.declared.Times.{Times}
+use Rattle.scan.specs.declared.Times.the-variants.{None, One, More}
 use Rattle.parameters.specs.declared.Comeback.{Comeback}
 use Rattle.parameters.specs.declared.Offer.{Offer}
 use Rattle.parameters.specs.declared.Parameters.{Parameters}

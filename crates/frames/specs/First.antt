@@ -7,8 +7,8 @@ use mathlib.Core.Option.{Option, none, some}
 use lib.Dec.{eqb, ltb}
 use Rattle.octets.specs.Maybe.{_>>=_}
 use Rattle.elements.specs.declared.Part.{Part}
-use Rattle.elements.specs.Scan.{scanOf}
-use Rattle.elements.specs.Within.{Lies}
+use Rattle.scan.specs.Scan.{scanOf}
+use Rattle.elements.specs.Lies.{Lies}
 use Rattle.parameters.specs.declared.Side.the-variants.{Station}
 use Rattle.parameters.specs.Parameters.{parametersOf}
 use Rattle.rsne.specs.Rsne.{rsneOf}

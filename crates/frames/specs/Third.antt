@@ -6,7 +6,7 @@ use mathlib.Core.Option.{Option, none, some}
 use lib.Dec.{eqb}
 use Rattle.octets.specs.Maybe.{_>>=_}
 use Rattle.elements.specs.declared.Part.{Part}
-use Rattle.elements.specs.Scan.{scanOf}
+use Rattle.scan.specs.Scan.{scanOf}
 use Rattle.parameters.specs.declared.Side.the-variants.{Station}
 use Rattle.parameters.specs.Parameters.{parametersOf}
 use Rattle.frames.specs.declared.third.Third.{Third}

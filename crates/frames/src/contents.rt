@@ -1,16 +1,17 @@
 // What the elements of a body say, by how often each stands there. Parts are places of the body.
 ghost use mathlib.Core.Path.{_≡_};
 ghost use lib.ListN.{length};
-ghost use Rattle.elements.specs.Within.{Lies, LiesIf};
+ghost use Rattle.elements.specs.Lies.{Lies};
+ghost use Rattle.scan.specs.Within.{LiesIf};
 ghost use Rattle.parameters.specs.Parameters.{parametersOf};
 ghost use Rattle.frames.specs.Contents.{content, extended, isRsne};
 ghost use Rattle.frames.specs.ByElement.{rsneIn, isLifetimeReading, lifetimeIn};
 use elements::Part;
-use elements::Times;
 use layouts::timeout;
 use layouts::timeout::Timeout;
 use parameters::Side;
 use rsne::Rsne;
+use scan::Times;
 use units::Seconds;
 
 // The one RSNE.

@@ -1,7 +1,7 @@
 // The first frame.
 ghost use mathlib.Core.Path.{_≡_};
 ghost use lib.ListN.{length};
-ghost use Rattle.elements.specs.Within.{LiesIf};
+ghost use Rattle.scan.specs.Within.{LiesIf};
 ghost use Rattle.frames.specs.Contents.{holds};
 ghost use Rattle.frames.specs.First.{firstOf, isFirst};
 ghost use Rattle.frames.specs.ByElement.{isOffered, offeredIn, wrappedIn};
@@ -9,11 +9,11 @@ use crate::contents;
 use crate::contents::Lifetime;
 use crate::contents::LifetimeReading;
 use elements::Part;
-use elements::Scan;
-use elements::Times;
 use parameters::Offer;
 use parameters::Side;
 use rsne::Rsne;
+use scan::Scan;
+use scan::Times;
 
 // What a first frame says that passes step 1. The PMKIDs and the key are parts of the body.
 pub struct Facts {
@@ -81,7 +81,7 @@ fn wrapped_fits(format: u8, wrapped: Times) -> bool
 pub fn read(body: &[u8]) -> First
     ensures { λ r. ⌜ isFirst r ≡ firstOf (now (body .entry)) ⌝ }
 {
-    let scan = elements::scan_body(body);
+    let scan = scan::scan_body(body);
     let Scan::Walked(p) = scan else {
         return First::Ill;
     };

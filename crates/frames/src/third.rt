@@ -1,17 +1,17 @@
 // The third frame.
 ghost use mathlib.Core.Path.{_≡_};
 ghost use lib.ListN.{length};
-ghost use Rattle.elements.specs.Within.{LiesIf, Ordered};
+ghost use Rattle.scan.specs.Within.{LiesIf, Ordered};
 ghost use Rattle.frames.specs.Contents.{holds};
 ghost use Rattle.frames.specs.Third.{thirdOf, isThird};
 ghost use Rattle.frames.specs.ByElement.{quietIn, micIn};
 use crate::contents;
 use elements::Part;
-use elements::Scan;
-use elements::Times;
 use parameters::Comeback;
 use parameters::Offer;
 use parameters::Side;
+use scan::Scan;
+use scan::Times;
 
 // The place of the MIC, in a third frame that is refused for nothing else.
 pub enum Third {
@@ -59,7 +59,7 @@ fn mic_of(mic: Times, n: usize) -> Third
 pub fn read(body: &[u8], n: usize) -> Third
     ensures { λ r. ⌜ isThird r ≡ thirdOf (now (body .entry)) n ⌝ }
 {
-    let scan = elements::scan_body(body);
+    let scan = scan::scan_body(body);
     let Scan::Walked(p) = scan else {
         return Third::Ill;
     };

@@ -13,7 +13,7 @@ use Rattle.octets.specs.Wrote.{Wrote}
 use Rattle.octets.proofs.Choice.{either-way, unless}
 use Rattle.octets.proofs.Writers.{wrote-over}
 use Rattle.elements.specs.declared.Part.{Part}
-use Rattle.elements.specs.Within.{Lies}
+use Rattle.elements.specs.Lies.{Lies}
 use Rattle.parameters.specs.declared.Side.{Side}
 use Rattle.parameters.specs.declared.Side.the-variants.{Station, AccessPoint}
 use Rattle.parameters.specs.declared.Comeback.{Comeback}

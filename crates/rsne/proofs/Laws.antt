@@ -12,7 +12,7 @@ use Rattle.octets.specs.Choice.{if_then_else_}
 use Rattle.octets.specs.Numbers.{le, octets}
 use Rattle.octets.proofs.Numbers.{le-octets}
 use Rattle.elements.specs.declared.Part.{Part}
-use Rattle.elements.specs.Within.{Lies}
+use Rattle.elements.specs.Lies.{Lies}
 use Rattle.suites.specs.declared.Suite.{Suite}
 use Rattle.suites.specs.declared.Suite.the-variants.{Ours}
 use Rattle.suites.specs.Suite.{suiteAt, suiteOctets}

@@ -6,7 +6,7 @@ use Prim.Native.Nat.{ℕ}
 use lib.ListN.{replicate}
 use Rattle.octets.specs.Numbers.{le, octets}
 use Rattle.elements.specs.Body.{bodyOf}
-use Rattle.elements.specs.Scan.{scanOf}
+use Rattle.scan.specs.Scan.{scanOf}
 use Rattle.suites.specs.declared.Suite.the-variants.{Ours}
 use Rattle.suites.specs.Suite.{suiteAt, suiteOctets}
 use Rattle.rsne.specs.declared.Only.{Only}

@@ -8,7 +8,7 @@ use Rattle.units.specs.declared.Seconds.{Seconds}
 use Rattle.elements.specs.declared.Header.{Header}
 use Rattle.elements.specs.declared.Opened.{Opened}
 use Rattle.elements.specs.Body.{bodyOf}
-use Rattle.elements.specs.Scan.{scanOf}
+use Rattle.scan.specs.Scan.{scanOf}
 use Rattle.suites.specs.declared.Suite.{Suite}
 use Rattle.parameters.specs.declared.Side.the-variants.{AccessPoint}
 use Rattle.rsne.specs.declared.Only.{Only}

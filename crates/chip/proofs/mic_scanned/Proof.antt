@@ -1,6 +1,6 @@
 use mathlib.Core.Path.{sym, _∙_}
 use lib.ListN.{length}
-use Rattle.elements.proofs.Scanning.{within}
+use Rattle.scan.proofs.Scanning.{within}
 use Rattle.frames.proofs.Otherwise.{ordered}
 use borrow.Author.Needs.{needs}
 use Rattle.chip.proofs.mic_scanned.Statement.{statement}

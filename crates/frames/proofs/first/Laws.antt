@@ -10,10 +10,10 @@ use mathlib.Core.Option.{Option, none, some, Option·some-injective}
 use lib.Dec.{eqb, ltb}
 use Rattle.octets.specs.Maybe.{_>>=_}
 use Rattle.elements.specs.declared.Part.{Part}
-use Rattle.elements.specs.declared.Places.{Places}
-use Rattle.elements.specs.declared.Times.the-variants.{None, One}
-use Rattle.elements.specs.Scan.{scanOf}
-use Rattle.elements.specs.Within.{Lies}
+use Rattle.scan.specs.declared.Places.{Places}
+use Rattle.scan.specs.declared.Times.the-variants.{None, One}
+use Rattle.scan.specs.Scan.{scanOf}
+use Rattle.elements.specs.Lies.{Lies}
 use Rattle.parameters.specs.declared.Side.the-variants.{Station}
 use Rattle.rsne.specs.declared.Rsne.{Rsne}
 use Rattle.parameters.specs.Parameters.{parametersOf}

@@ -6,9 +6,9 @@ use Prim.Native.Nat.{ℕ, _-_}
 use lib.Dec.{eqb}
 use lib.ListN.{length}
 use Rattle.elements.specs.declared.Part.{Part}
-use Rattle.elements.specs.declared.Places.{Places}
-use Rattle.elements.specs.Scan.{scanOf}
-use Rattle.elements.specs.Within.{Lies}
+use Rattle.scan.specs.declared.Places.{Places}
+use Rattle.scan.specs.Scan.{scanOf}
+use Rattle.elements.specs.Lies.{Lies}
 use Rattle.parameters.specs.declared.Side.the-variants.{Station}
 use Rattle.parameters.specs.Parameters.{parametersOf}
 use Rattle.frames.specs.Contents.{content, extended, holds, isWalked, once, never, isParameters, noComeback, noKey}

@@ -10,11 +10,11 @@ use lib.Seq.{take-at, drop-append-add, drop-append-le}
 use Rattle.octets.specs.Numbers.{octets}
 use Rattle.elements.specs.declared.Opened.{Opened}
 use Rattle.elements.specs.declared.Part.{Part}
-use Rattle.elements.specs.declared.Scan.{Scan}
-use Rattle.elements.specs.declared.Times.the-variants.{None, One}
+use Rattle.scan.specs.declared.Scan.{Scan}
+use Rattle.scan.specs.declared.Times.the-variants.{None, One}
 use Rattle.elements.specs.Body.{bodyOf}
-use Rattle.elements.specs.Scan.{placesOf, scanBy, scanOf}
-use Rattle.elements.proofs.Scanning.{in-body}
+use Rattle.scan.specs.Scan.{placesOf, scanBy, scanOf}
+use Rattle.scan.proofs.Scanning.{in-body}
 use Rattle.elements.proofs.Written.{written-none, written-more}
 use Rattle.suites.specs.declared.Suite.the-variants.{Ours}
 use Rattle.rsne.specs.declared.Only.{Only}

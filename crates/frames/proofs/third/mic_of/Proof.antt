@@ -1,6 +1,6 @@
 use mathlib.Core.Path.{refl, sym}
 use borrow.Author.Tests.{eq-eqb, ne-eqb}
-use Rattle.elements.specs.declared.Times.{Times}
+use Rattle.scan.specs.declared.Times.{Times}
 use Rattle.frames.specs.ByElement.{micIn}
 use Rattle.frames.proofs.Otherwise.{not-one}
 use borrow.Author.Needs.{needs}

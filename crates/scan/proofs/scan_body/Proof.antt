@@ -1,11 +1,11 @@
 use mathlib.Core.Path.{sym, _∙_}
 use borrow.Author.Needs.{needs}
 use borrow.Author.Tests.{le-ltb, lt-ltb}
 use Rattle.elements.specs.Walk.{walkBody}
-use Rattle.elements.specs.Scan.{scanOf}
-use Rattle.elements.proofs.Scanning.{in-body}
-use Rattle.elements.proofs.scan_body.Statement.{statement}
-use Rattle.elements.proofs.scan_body.Tie as tie
+use Rattle.scan.specs.Scan.{scanOf}
+use Rattle.scan.proofs.Scanning.{in-body}
+use Rattle.scan.proofs.scan_body.Statement.{statement}
+use Rattle.scan.proofs.scan_body.Tie as tie
 
 returns : tie.Need-returns
 unfolding scanOf walkBody

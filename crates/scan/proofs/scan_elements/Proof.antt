@@ -3,11 +3,11 @@ use Prim.Native.Nat.{_-_}
 use native.Mathlib.Omega.{arith}
 use borrow.Author.Needs.{needs}
 use lib.ListN.{length}
-use Rattle.elements.specs.Scan.{placesOf}
+use Rattle.scan.specs.Scan.{placesOf}
 use Rattle.elements.proofs.Standing.{stood}
-use Rattle.elements.proofs.Scanning.{Scanned, scanned-none, scanned-more, scanned-all, scanned-failed}
-use Rattle.elements.proofs.scan_elements.Statement.{statement}
-use Rattle.elements.proofs.scan_elements.Tie as tie
+use Rattle.scan.proofs.Scanning.{Scanned, scanned-none, scanned-more, scanned-all, scanned-failed}
+use Rattle.scan.proofs.scan_elements.Statement.{statement}
+use Rattle.scan.proofs.scan_elements.Tie as tie
 
 abbrev Inv-loop : tie.InvT-loop
 Inv-loop body rsne₀ timeout₀ mic₀ fragment₀ parameters₀ wrapped₀ at₀ rsne timeout mic fragment parameters wrapped at =

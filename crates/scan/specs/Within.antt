@@ -1,14 +1,9 @@
 -- Where what a scan finds lies in a string of n octets.
-use Prim.Native.Nat.{ℕ, _+_, _≤_}
-use Rattle.elements.specs.declared.Part.{Part}
-use Rattle.elements.specs.declared.Times.{Times}
-use Rattle.elements.specs.declared.Times.the-variants.{None, One, More}
-use Rattle.elements.specs.declared.Places.{Places}
-
--- a part of so many octets at least
-pub record Lies (least n : ℕ) (p : Part) : Type 0 where
-  pub long : p .start + least ≤ p .end
-  pub within : p .end ≤ n
+use Prim.Native.Nat.{ℕ, _≤_}
+use Rattle.elements.specs.Lies.{Lies}
+use Rattle.scan.specs.declared.Times.{Times}
+use Rattle.scan.specs.declared.Times.the-variants.{None, One, More}
+use Rattle.scan.specs.declared.Places.{Places}
 
 abbrev pub LiesIf : ℕ → ℕ → Times → Type 0
 LiesIf least n None = Unit {0}

@@ -4,17 +4,17 @@ use mathlib.Core.Bool.{Bool}
 use mathlib.Core.List.{List, [], _∷_}
 use lib.Dec.{eqb}
 use Rattle.octets.specs.Choice.{if_then_else_}
 use Rattle.elements.specs.declared.Extension.{Extension}
 use Rattle.elements.specs.declared.Extension.the-variants.{Id, Absent}
 use Rattle.elements.specs.declared.Element.{Element}
-use Rattle.elements.specs.declared.Kind.{Kind}
-use Rattle.elements.specs.declared.Kind.the-variants.{Rsne, Timeout, Mic, Fragment, Parameters, Wrapped, Skipped}
+use Rattle.scan.specs.declared.Kind.{Kind}
+use Rattle.scan.specs.declared.Kind.the-variants.{Rsne, Timeout, Mic, Fragment, Parameters, Wrapped, Skipped}
 use Rattle.elements.specs.declared.Part.{Part}
-use Rattle.elements.specs.declared.Times.{Times}
-use Rattle.elements.specs.declared.Times.the-variants.{None, One, More}
-use Rattle.elements.specs.declared.Places.{Places}
-use Rattle.elements.specs.declared.Scan.{Scan}
+use Rattle.scan.specs.declared.Times.{Times}
+use Rattle.scan.specs.declared.Times.the-variants.{None, One, More}
+use Rattle.scan.specs.declared.Places.{Places}
+use Rattle.scan.specs.declared.Scan.{Scan}
 use Rattle.elements.specs.Walk.{Walk, walked, failedAt, walkBody}
 
 -- RSNE 48, Timeout Interval 56, MIC 140, Fragment 242
 abbrev pub plainKind : ℕ → Kind

@@ -1,6 +1,6 @@
 use borrow.Author.Needs.{needs}
-use Rattle.elements.proofs.seen.Statement.{statement}
-use Rattle.elements.proofs.seen.Tie as tie
+use Rattle.scan.proofs.seen.Statement.{statement}
+use Rattle.scan.proofs.seen.Tie as tie
 
 enum-told : tie.Need-enum-told
 enum-told c = search needs

@@ -8,22 +8,23 @@ use borrow.Author.Tests.{le-ltb, eqb-true}
 use lib.Dec.{ltb, eqb}
 use lib.ListN.{length, getD}
 use Rattle.octets.specs.Choice.{if_then_else_}
 use Rattle.elements.specs.declared.Extension.{Extension}
 use Rattle.elements.specs.declared.Extension.the-variants.{Absent}
 use Rattle.elements.specs.declared.Element.{Element}
 use Rattle.elements.specs.declared.Met.the-variants.{Stands, End, Failed}
-use Rattle.elements.specs.declared.Kind.{Kind}
-use Rattle.elements.specs.declared.Kind.the-variants.{Rsne, Timeout, Mic, Fragment, Parameters, Wrapped, Skipped}
-use Rattle.elements.specs.declared.Times.{Times}
-use Rattle.elements.specs.declared.Places.{Places}
-use Rattle.elements.specs.declared.Scan.{Scan}
+use Rattle.scan.specs.declared.Kind.{Kind}
+use Rattle.scan.specs.declared.Kind.the-variants.{Rsne, Timeout, Mic, Fragment, Parameters, Wrapped, Skipped}
+use Rattle.scan.specs.declared.Times.{Times}
+use Rattle.scan.specs.declared.Places.{Places}
+use Rattle.scan.specs.declared.Scan.{Scan}
 use Rattle.elements.specs.Met.{metAt}
 use Rattle.elements.specs.Walk.{Walk, walked, failedAt, _then_, walk, walkBody}
-use Rattle.elements.specs.Scan.{plainKind, kindBy, kindOf, kindNumber, isKind, ofKind, partOf, timesOf, placesOf, scanBy, scanOf}
-use Rattle.elements.specs.Noting.{seenOf, markOf}
-use Rattle.elements.specs.Within.{Lies, LiesIf, Within}
+use Rattle.scan.specs.Scan.{plainKind, kindBy, kindOf, kindNumber, isKind, ofKind, partOf, timesOf, placesOf, scanBy, scanOf}
+use Rattle.scan.specs.Noting.{seenOf, markOf}
+use Rattle.elements.specs.Lies.{Lies}
+use Rattle.scan.specs.Within.{LiesIf, Within}
 use Rattle.elements.proofs.Standing.{Stood}
 use Rattle.elements.proofs.Walk.{then-none, then-then, walk-stands, walk-ends, walk-fails, Each, EachOf, each-stood}
 
 -- one more at the end of those of a kind
 times-snoc : (es : List Element) (e : Element) → timesOf (es ++ (e ∷ [])) ≡ seenOf (timesOf es) (partOf e)

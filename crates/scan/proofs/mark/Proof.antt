@@ -1,8 +1,8 @@
 use mathlib.Core.Path.{sym, _∙_}
 use borrow.Author.Tests.{eq-eqb, ne-eqb}
 use borrow.Author.Needs.{needs}
-use Rattle.elements.proofs.mark.Statement.{statement}
-use Rattle.elements.proofs.mark.Tie as tie
+use Rattle.scan.proofs.mark.Statement.{statement}
+use Rattle.scan.proofs.mark.Tie as tie
 
 kind-number-requires : tie.Need-kind-number-requires
 kind-number-requires c κs = search needs

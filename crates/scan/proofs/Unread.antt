@@ -11,23 +11,23 @@ use lib.ListN.{length, getD}
 use Rattle.octets.specs.Choice.{if_then_else_}
 use Rattle.octets.specs.Numbers.{le}
 use Rattle.octets.proofs.Numbers.{le-ext}
 use Rattle.elements.specs.declared.Extension.{Extension}
 use Rattle.elements.specs.declared.Extension.the-variants.{Id}
 use Rattle.elements.specs.declared.Element.{Element}
 use Rattle.elements.specs.declared.Met.the-variants.{Stands, End, Failed}
-use Rattle.elements.specs.declared.Kind.{Kind}
-use Rattle.elements.specs.declared.Kind.the-variants.{Mic, Parameters, Wrapped, Skipped}
+use Rattle.scan.specs.declared.Kind.{Kind}
+use Rattle.scan.specs.declared.Kind.the-variants.{Mic, Parameters, Wrapped, Skipped}
 use Rattle.elements.specs.declared.Part.{Part}
-use Rattle.elements.specs.declared.Times.{Times}
-use Rattle.elements.specs.declared.Times.the-variants.{None, One, More}
-use Rattle.elements.specs.declared.Places.{Places}
-use Rattle.elements.specs.declared.Scan.{Scan}
+use Rattle.scan.specs.declared.Times.{Times}
+use Rattle.scan.specs.declared.Times.the-variants.{None, One, More}
+use Rattle.scan.specs.declared.Places.{Places}
+use Rattle.scan.specs.declared.Scan.{Scan}
 use Rattle.elements.specs.Body.{bodyOf}
 use Rattle.elements.specs.Met.{metAt}
 use Rattle.elements.specs.Walk.{Walk, walked, failedAt, _then_, walk, walkBody}
-use Rattle.elements.specs.Scan.{extendedKind, kindBy, kindOf, kindNumber, isKind, ofKind, partOf, timesOf, placesOf, scanBy, scanOf}
+use Rattle.scan.specs.Scan.{extendedKind, kindBy, kindOf, kindNumber, isKind, ofKind, partOf, timesOf, placesOf, scanBy, scanOf}
 use Rattle.elements.proofs.Standing.{Stood, stood, element-same}
 use Rattle.elements.proofs.Walk.{walk-stands, walk-ends, walk-fails, walk-induction, Each, EachOf, each-stood}
 
 -- Two strings, as long as each other, that differ at most in a part.
 pub record SameBut (p : Part) (s t : List ℕ) : Type 0 where

@@ -1,6 +1,6 @@
 use borrow.Author.Needs.{needs}
-use Rattle.elements.proofs.kind_of.Statement.{statement}
-use Rattle.elements.proofs.kind_of.Tie as tie
+use Rattle.scan.proofs.kind_of.Statement.{statement}
+use Rattle.scan.proofs.kind_of.Tie as tie
 
 enum-known-extension : tie.Need-enum-known-extension
 enum-known-extension c = search needs

@@ -1,10 +1,10 @@
 -- What the scan does at one element.
 use Rattle.octets.specs.Choice.{if_then_else_}
-use Rattle.elements.specs.declared.Kind.{Kind}
+use Rattle.scan.specs.declared.Kind.{Kind}
 use Rattle.elements.specs.declared.Part.{Part}
-use Rattle.elements.specs.declared.Times.{Times}
-use Rattle.elements.specs.declared.Times.the-variants.{None, One, More}
-use Rattle.elements.specs.Scan.{isKind}
+use Rattle.scan.specs.declared.Times.{Times}
+use Rattle.scan.specs.declared.Times.the-variants.{None, One, More}
+use Rattle.scan.specs.Scan.{isKind}
 
 -- one more of a kind
 abbrev pub seenOf : Times → Part → Times

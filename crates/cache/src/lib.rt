@@ -1,4 +1,6 @@
 // The cache file: whether it is well-formed, and the search. It is read where it lies.
+#![tactic(auto)]
+
 ghost use Rattle.std.specs.Prelude.{◌≡◌, true, ◌+◌, ◌/◌, ◌≤◌, length};
 ghost use Rattle.octets.specs.Pieces.{pieces};
 ghost use Rattle.cache.specs.declared.Read.TheVariants.{Stands};
@@ -20,14 +22,14 @@ const MOST_RECORDS: usize = 64;
 const PMKID: usize = 16;
 
 // Of a record of the file: where its value starts, and the place after it.
-#[derive(Drop)]
+#[derive(Clone, Copy)]
 struct Record {
     value: usize,
     next: usize,
 }
 
 // What stands at a place of the file.
-#[derive(Drop)]
+#[derive(Clone, Copy)]
 enum Read {
     Stands(Record),
     End,
@@ -115,7 +117,7 @@ fn matches(file: &[u8], value: usize, pmkid: &[u8], akm: u8, reading: Tu) -> boo
 }
 
 // The end of a PMKID's first record that matches, or nothing.
-#[derive(Drop)]
+#[derive(Clone, Copy)]
 enum Match {
     Until(Tu),
     Nothing,
@@ -138,7 +140,7 @@ fn find(file: &[u8], pmkid: &[u8], akm: u8, reading: Tu) -> Match
 }
 
 // The first PMKID of a list that has such a record, by its number in the list counted from 0, and the record's end; or nothing.
-#[derive(Drop)]
+#[derive(Clone, Copy)]
 pub enum Choice {
     Chosen { pmkid: usize, end: Tu },
     Nothing,

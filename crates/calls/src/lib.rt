@@ -1,4 +1,6 @@
 // What a checked call gets by its body, and by what the search found of the peer. No table stands in it.
+#![tactic(auto)]
+
 ghost use Rattle.std.specs.Prelude.{◌≡◌, [], ◌^◌, ◌≤◌, length};
 ghost use Rattle.rules.specs.declared.Answer.{Answer};
 ghost use Rattle.rules.specs.OnePeer.{is_installed, waits, gone_if, first_frame, third_frame};

@@ -1,4 +1,6 @@
 // The checks of a call before the records and the frame are looked at: the answers 1 to 5.
+#![tactic(auto)]
+
 ghost use Rattle.std.specs.Prelude.{◌≡◌};
 ghost use Rattle.rules.specs.OnePeer.{clock_fits, settings_fit, is_group_address, checks};
 ghost use Rattle.checks.specs.Checked.{failure, asked_of};
@@ -40,7 +42,7 @@ fn is_group_address(address: [u8; 6]) -> bool
     address[0] % 2 == 1
 }
 
-#[derive(Drop)]
+#[derive(Clone, Copy)]
 pub enum Checked {
     Passed,
     Failed(Answer),
@@ -72,7 +74,7 @@ pub fn check_call(latest: Tu, brought: Brought, file: &[u8], room: usize) -> Che
 }
 
 // What a removal and a look-up are checked for.
-#[derive(Drop)]
+#[derive(Clone, Copy)]
 pub enum Asked {
     Passed,
     ClockOut,

@@ -1,4 +1,6 @@
 // What the radio chip needs of a body: the key of a first frame to check, the MIC zeroed for its input, and the MIC set.
+#![tactic(auto)]
+
 ghost use Rattle.std.specs.Prelude.{◌≡◌, length};
 ghost use Rattle.scan.specs.Scan.{scan_of};
 ghost use Rattle.elements.specs.Lies.{Lies};
@@ -55,7 +57,7 @@ pub fn show_key(body: &[u8]) -> Part
 }
 
 // The place of the MIC in a body whose MIC can be set or zeroed.
-#[derive(Drop)]
+#[derive(Clone, Copy)]
 pub enum MicPlace {
     At(Part),
     Nowhere,
@@ -105,7 +107,7 @@ fn mic_in(body: &[u8]) -> MicPlace
 }
 
 // What setting or zeroing a MIC answers.
-#[derive(Drop)]
+#[derive(Clone, Copy)]
 pub enum MicAnswer {
     Done,
     BufferTooShort,

@@ -1,4 +1,6 @@
 // What a third frame gets, as a verdict. No table stands in it.
+#![tactic(auto)]
+
 ghost use Rattle.std.specs.Prelude.{◌^◌, ◌≤◌, ◌≡◌};
 ghost use Rattle.std.proofs.Math.Option.{some};
 ghost use Rattle.units.specs.Units.{in_tu};

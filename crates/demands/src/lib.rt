@@ -1,5 +1,7 @@
 // The demands on the unit as theorems, over what its operations promise. There is nothing to run here: each demand is what a function without code promises,
 // so that one without a proof fails the gate.
+#![tactic(auto)]
+
 ghost use Rattle.demands.specs.Coincide.{OutcomesCoincide};
 ghost use Rattle.demands.specs.Edges.{EdgesHold};
 ghost use Rattle.demands.specs.Exported.{ExportedCoincide};

@@ -1,4 +1,6 @@
 // The body of an Authentication frame: six octets, then elements.
+#![tactic(auto)]
+
 ghost use Rattle.std.specs.Prelude.{◌≡◌};
 ghost use Rattle.elements.specs.Body.{body_of};
 ghost use Rattle.elements.specs.Met.{met_at};
@@ -11,7 +13,7 @@ pub const LONGEST_BODY: usize = 1024;
 // The Authentication algorithm number of PASN.
 pub const PASN: u16 = 7;
 
-#[derive(Drop)]
+#[derive(Clone, Copy)]
 pub struct Header {
     pub algorithm: u16,
     pub transaction: u16,
@@ -19,7 +21,7 @@ pub struct Header {
 }
 
 // What a string of octets is by its length: a body, or none.
-#[derive(Drop)]
+#[derive(Clone, Copy)]
 pub enum Opened {
     Body(Header),
     NoBody,
@@ -42,14 +44,14 @@ pub fn open_body(s: &[u8]) -> Opened
 }
 
 // The extension ID, which only an element of ID 255 has.
-#[derive(Drop)]
+#[derive(Clone, Copy)]
 pub enum Extension {
     Id(u8),
     Absent,
 }
 
 // An element: the place of its ID, where its content starts and how long that is, and the place after it.
-#[derive(Drop)]
+#[derive(Clone, Copy)]
 pub struct Element {
     pub id: u8,
     pub extension: Extension,
@@ -60,7 +62,7 @@ pub struct Element {
 }
 
 // What the walk meets at a place.
-#[derive(Drop)]
+#[derive(Clone, Copy)]
 pub enum Met {
     Stands(Element),
     End,
@@ -106,7 +108,7 @@ fn met_in(s: &[u8], at: usize) -> Met
 }
 
 // What walks a frame: the body, and a place in it.
-#[derive(Drop)]
+#[derive(Clone, Copy)]
 pub struct Reader<'a> {
     pub body: &'a [u8],
     pub at: usize,
@@ -135,7 +137,7 @@ pub fn met_at(body: &[u8], at: usize) -> Met
 }
 
 // The part of a body from `start` up to `end`.
-#[derive(Drop)]
+#[derive(Clone, Copy)]
 pub struct Part {
     pub start: usize,
     pub end: usize,

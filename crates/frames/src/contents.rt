@@ -37,13 +37,13 @@ pub fn read_rsne(body: &[u8], t: Times) -> rsne::Reading
 }
 
 // The key lifetime that a Timeout Interval asks for, where there is one.
-#[derive(Drop)]
+#[derive(Clone, Copy)]
 pub enum Lifetime {
     Asked(Seconds),
     Unasked,
 }
 
-#[derive(Drop)]
+#[derive(Clone, Copy)]
 pub enum LifetimeReading {
     Is(Lifetime),
     Ill,

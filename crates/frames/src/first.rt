@@ -13,7 +13,7 @@ use rsne::Rsne;
 use scan::{Scan, Times};
 
 // What a first frame says that passes step 1. The PMKIDs and the key are parts of the body.
-#[derive(Drop)]
+#[derive(Clone, Copy)]
 pub struct Facts {
     pub rsne: Rsne,
     pub lifetime: Lifetime,
@@ -22,14 +22,14 @@ pub struct Facts {
     pub key: Part,
 }
 
-#[derive(Drop)]
+#[derive(Clone, Copy)]
 pub enum First {
     Is(Facts),
     Ill,
 }
 
 // What PASN Parameters offer: the wrapped format, the group, and the place of the key.
-#[derive(Drop)]
+#[derive(Clone, Copy)]
 pub enum Offered {
     Key { format: u8, group: u16, key: Part },
     Ill,

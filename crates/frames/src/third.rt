@@ -11,7 +11,7 @@ use parameters::{Comeback, Offer, Side};
 use scan::{Scan, Times};
 
 // The place of the MIC, in a third frame that is refused for nothing else.
-#[derive(Drop)]
+#[derive(Clone, Copy)]
 pub enum Third {
     Mic(Part),
     Ill,

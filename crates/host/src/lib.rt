@@ -1,4 +1,6 @@
 // What a host hands over and is told, in numbers as C has them.
+#![tactic(auto)]
+
 ghost use Rattle.std.specs.Prelude.{◌≡◌};
 ghost use Rattle.host.specs.Host.{settings_of, brought_of, status_number, receive_result_of};
 
@@ -7,7 +9,7 @@ use units::{Seconds, Tu};
 
 // What the host allows. The ciphers 4, 8, 9 and 10 are the flags 1, 2, 4 and 8.
 #[repr(C)]
-#[derive(Drop)]
+#[derive(Clone, Copy)]
 pub struct HostSettings {
     pub allow_pmkless: u8,
     pub allow_ciphers: u8,
@@ -17,7 +19,7 @@ pub struct HostSettings {
 
 // What a receive brings, beside its slices.
 #[repr(C)]
-#[derive(Drop)]
+#[derive(Clone, Copy)]
 pub struct HostCall {
     pub settings: HostSettings,
     pub reading_tu: u64,
@@ -27,7 +29,7 @@ pub struct HostCall {
 
 // What a receive tells.
 #[repr(C)]
-#[derive(Drop)]
+#[derive(Clone, Copy)]
 pub struct ReceiveResult {
     pub answer: u8,
     pub status: u16,

@@ -5,7 +5,7 @@ ghost use Rattle.layouts.specs.Timeout.{timeout_of, timeout_size, timeout_octets
 
 use units::Seconds;
 
-#[derive(Drop)]
+#[derive(Clone, Copy)]
 pub enum Timeout {
     Lifetime(Seconds),
     Ill,

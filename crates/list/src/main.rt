@@ -1,4 +1,6 @@
 // Lists the body on standard input: its header, then its elements, a line each.
+#![tactic(auto)]
+
 use elements::{Element, Extension, Header, LONGEST_BODY, Met, Opened};
 use libc::{STDIN_FILENO, STDOUT_FILENO};
 

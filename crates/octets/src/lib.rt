@@ -1,6 +1,8 @@
 // Strings of octets: numbers low octet first, comparing, copying, zeroing.
 //
 // A writer is lent the part that begins where its octets go, and tells how many it wrote (`Wrote`).
+#![tactic(auto)]
+
 ghost use Rattle.std.specs.Prelude.{◌≡◌, ◌+◌, ◌^◌, ◌≤◌, ◌<◌, length, replicate};
 ghost use Rattle.octets.specs.Numbers.{le, octets};
 ghost use Rattle.octets.specs.Equality.{same_octets};

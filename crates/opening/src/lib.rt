@@ -1,4 +1,6 @@
 // What a first frame gets, as a verdict: its eleven steps, its refusal and its acceptance. No table stands in it.
+#![tactic(auto)]
+
 ghost use Rattle.std.specs.Prelude.{◌≡◌, true, ◌≤◌, length};
 ghost use Rattle.cache.specs.File.{is_well_formed};
 ghost use Rattle.frames.specs.First.{FactsLie};
@@ -16,21 +18,21 @@ use units::Tu;
 use writers::second::{Chosen, SECOND};
 
 // What a second frame is made of, beside the PMKID: what was agreed, the MIC's length, and the group.
-#[derive(Drop)]
+#[derive(Clone, Copy)]
 struct Accepted {
     agreed: Agreed,
     mic: usize,
     group: Group,
 }
 
-#[derive(Drop)]
+#[derive(Clone, Copy)]
 enum Decision {
     Passed(Accepted),
     Refused(Refusal),
 }
 
 // What the steps come to, and the PMKID of what was agreed: zeros where there is none.
-#[derive(Drop)]
+#[derive(Clone, Copy)]
 struct Decided {
     decision: Decision,
     pmkid: [u8; 16],

@@ -1,4 +1,6 @@
 // PASN Parameters, read from the octet after the extension ID on, and written whole.
+#![tactic(auto)]
+
 ghost use Rattle.std.specs.Prelude.{◌≡◌, [], ◌++◌, ◌+◌, ◌≤◌, ◌<◌, length};
 ghost use Rattle.octets.specs.Numbers.{octets};
 ghost use Rattle.octets.specs.Wrote.{Wrote};
@@ -7,14 +9,14 @@ ghost use Rattle.parameters.specs.Parameters.{after_width, comeback_of, offer_fr
 use elements::Part;
 
 // Who wrote the element.
-#[derive(Drop)]
+#[derive(Clone, Copy)]
 pub enum Side {
     Station,
     AccessPoint,
 }
 
 // What comes with control bit B0: a station's cookie, or an access point's Comeback After (in TU) and cookie.
-#[derive(Drop)]
+#[derive(Clone, Copy)]
 pub enum Comeback {
     Cookie(Part),
     After(u16, Part),
@@ -22,20 +24,20 @@ pub enum Comeback {
 }
 
 // What comes with control bit B1: a group, and a public key of it.
-#[derive(Drop)]
+#[derive(Clone, Copy)]
 pub enum Offer {
     Key(u16, Part),
     Absent,
 }
 
-#[derive(Drop)]
+#[derive(Clone, Copy)]
 pub struct Parameters {
     pub comeback: Comeback,
     pub format: u8,
     pub offer: Offer,
 }
 
-#[derive(Drop)]
+#[derive(Clone, Copy)]
 pub enum Reading {
     Is(Parameters),
     Ill,
@@ -128,7 +130,7 @@ pub fn read(content: &[u8], side: Side) -> Reading
 }
 
 // What is written with B0, beside the cookie's octets.
-#[derive(Drop)]
+#[derive(Clone, Copy)]
 pub enum ComebackToWrite {
     Cookie,
     After(u16),
@@ -136,13 +138,13 @@ pub enum ComebackToWrite {
 }
 
 // What is written with B1, beside the key's octets.
-#[derive(Drop)]
+#[derive(Clone, Copy)]
 pub enum OfferToWrite {
     Key(u16),
     Absent,
 }
 
-#[derive(Drop)]
+#[derive(Clone, Copy)]
 pub struct ToWrite {
     pub comeback: ComebackToWrite,
     pub format: u8,

@@ -1,4 +1,6 @@
 // The records of peers, at most one to an address: what a table shows, and how records come and go.
+#![tactic(auto)]
+
 ghost use Rattle.std.specs.Prelude.{◌≡◌, [], ◌∷◌};
 ghost use Rattle.peers.specs.View.{until, live, is_of, other, vacant_peer};
 ghost use Rattle.peers.specs.Promises.{Nobody, Finds, IsPlace, found_peer, Puts, Drops};
@@ -6,14 +8,14 @@ ghost use Rattle.peers.specs.Promises.{Nobody, Finds, IsPlace, found_peer, Puts,
 use units::{Seconds, Tu};
 
 // A handshake that waits for its third frame until a deadline, or a key that is installed until its end.
-#[derive(Drop)]
+#[derive(Clone, Copy)]
 pub enum Phase {
     Waiting(Tu),
     Installed(Tu),
 }
 
 // What the two sides agreed on. `cached` says whether there is a PMKID; its octets stand beside, since an enum that holds this holds no array.
-#[derive(Drop)]
+#[derive(Clone, Copy)]
 pub struct Agreed {
     pub cipher: u8,
     pub akm: u8,
@@ -22,7 +24,7 @@ pub struct Agreed {
 }
 
 // A record. Without a PMKID `pmkid` is zeros. Two arrays side by side would be copied as one, which takes longer.
-#[derive(Drop)]
+#[derive(Clone, Copy)]
 pub struct Peer {
     pub address: [u8; 6],
     pub agreed: Agreed,
@@ -31,7 +33,7 @@ pub struct Peer {
 }
 
 // Sixteen places, and the latest clock reading. A place is free where its record is not live.
-#[derive(Drop)]
+#[derive(Clone, Copy)]
 pub struct Table {
     pub peers: [Peer; 16],
     pub latest: Tu,
@@ -39,7 +41,7 @@ pub struct Table {
 
 // What a search finds of an address: the place of its live record, which only indexes the table that was searched;
 // or no live record, with room for one, or with sixteen of others.
-#[derive(Drop)]
+#[derive(Clone, Copy)]
 pub enum Found {
     At(usize),
     Free,

@@ -1,4 +1,6 @@
 // The platform unit: sixteen records, and the operations that a host calls. None of them has a `requires`.
+#![tactic(auto)]
+
 ghost use Rattle.std.specs.Prelude.{◌≡◌};
 ghost use Rattle.peers.specs.Promises.{Nobody};
 ghost use Rattle.rules.specs.Told.{call_of};
@@ -10,7 +12,7 @@ use rules::{Answer, Brought, Leaves, LookUp, Removal};
 use units::Tu;
 
 // What a receive gives back: the table, the answer, and how many octets of the reply buffer are the reply.
-#[derive(Drop)]
+#[derive(Clone, Copy)]
 pub struct Received {
     pub table: Table,
     pub answer: Answer,
@@ -18,14 +20,14 @@ pub struct Received {
 }
 
 // What a removal gives back.
-#[derive(Drop)]
+#[derive(Clone, Copy)]
 pub struct Removed {
     pub table: Table,
     pub answer: Removal,
 }
 
 // What a look-up gives back: `peer` is the record where it is `Shown`, and else a vacant one.
-#[derive(Drop)]
+#[derive(Clone, Copy)]
 pub struct LookedUp {
     pub answer: LookUp,
     pub peer: Peer,

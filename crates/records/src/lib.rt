@@ -1,4 +1,6 @@
 // A record in octets, numbers low octet first: where each field stands, how a record is read and how it is written.
+#![tactic(auto)]
+
 ghost use Rattle.std.specs.Prelude.{◌≡◌, ◌≤◌, length};
 ghost use Rattle.records.specs.Record.{lifetime_at, record_size, is_yes, yes_number, phase_of, phase_number, peer_of, TellsNumber, TellsHead, Tells};
 

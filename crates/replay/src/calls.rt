@@ -34,7 +34,7 @@ fn one_if_installed(answer: Answer) -> u64 {
 }
 
 // What a call record comes to: the table, whether the record is as its row allows, and how many keys were installed.
-#[derive(Drop)]
+#[derive(Clone, Copy)]
 pub struct Called {
     pub table: Table,
     pub fits: bool,

@@ -1,4 +1,6 @@
 // Replays the call log on standard input: makes its calls, from the empty table on, and prints a line for each.
+#![tactic(auto)]
+
 mod calls;
 mod lines;
 mod setup;
@@ -10,7 +12,7 @@ use libc::STDIN_FILENO;
 use peers::Table;
 use setup::{ANY, LONGEST_LENT, Setup};
 
-#[derive(Drop)]
+#[derive(Clone, Copy)]
 enum Going {
     On,
     Ended,
@@ -18,7 +20,7 @@ enum Going {
 }
 
 // What is kept from record to record; `place` is that of the record at hand.
-#[derive(Drop)]
+#[derive(Clone, Copy)]
 struct State {
     table: Table,
     setup: Setup,
@@ -28,7 +30,7 @@ struct State {
 }
 
 // What a record leaves.
-#[derive(Drop)]
+#[derive(Clone, Copy)]
 struct Left {
     table: Table,
     setup: Setup,
@@ -64,13 +66,13 @@ fn act(
 // A record's tag and length.
 const HEAD: usize = 3;
 
-#[derive(Drop)]
+#[derive(Clone, Copy)]
 struct Head {
     tag: u8,
     length: u16,
 }
 
-#[derive(Drop)]
+#[derive(Clone, Copy)]
 enum Next {
     Is(Head),
     Ended,

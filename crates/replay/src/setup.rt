@@ -14,7 +14,7 @@ pub const LONGEST_LENT: usize = 255;
 pub const LONGEST_BUFFER: u16 = 2048;
 
 // `cache`, `key`, `mic` and `room` are lengths, of types that their buffers hold the most of. `fits` is false once a record is not as its row allows.
-#[derive(Drop)]
+#[derive(Clone, Copy)]
 pub struct Setup {
     pub settings: Settings,
     pub cache: u16,

@@ -1,4 +1,6 @@
 // The content of an RSNE.
+#![tactic(auto)]
+
 ghost use Rattle.std.specs.Prelude.{◌≡◌, ◌+◌, ◌≤◌, ◌<◌, length};
 ghost use Rattle.octets.specs.Wrote.{Wrote};
 ghost use Rattle.rsne.specs.Rsne.{only_of, rsne_of, rsne_size, rsne_octets};
@@ -7,13 +9,13 @@ use elements::Part;
 use suites::{GROUP_CIPHER, Suite};
 
 // A list of suites: the one suite that it has, or that it has none or several.
-#[derive(Drop)]
+#[derive(Clone, Copy)]
 pub enum Only {
     One(Suite),
     Otherwise,
 }
 
-#[derive(Drop)]
+#[derive(Clone, Copy)]
 pub struct Rsne {
     pub group: Suite,
     pub pairwise: Only,
@@ -23,7 +25,7 @@ pub struct Rsne {
     pub management: Suite,
 }
 
-#[derive(Drop)]
+#[derive(Clone, Copy)]
 pub enum Reading {
     Is(Rsne),
     Ill,

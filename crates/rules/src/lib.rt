@@ -1,4 +1,5 @@
 // The rules for one peer: what a receive brings and what it gets. No table stands in them.
+#![tactic(auto)]
 
 ghost use Rattle.std.specs.Prelude.{◌≡◌, replicate};
 ghost use Rattle.rules.specs.OnePeer.{terms_of, answer_number, removal_number, look_number};
@@ -7,7 +8,7 @@ use peers::{Agreed, Phase};
 use units::{Seconds, Tu};
 
 // What the host allows. A cipher is allowed by its flag of `suites`.
-#[derive(Drop)]
+#[derive(Clone, Copy)]
 pub struct Settings {
     pub pmkless: bool,
     pub ciphers: u8,
@@ -16,13 +17,13 @@ pub struct Settings {
 }
 
 // What the host lends in numbers: whether the chip took the peer's public key for a valid point.
-#[derive(Drop)]
+#[derive(Clone, Copy)]
 pub struct Lent {
     pub point: bool,
 }
 
 // What a receive brings, beside its strings of octets.
-#[derive(Drop)]
+#[derive(Clone, Copy)]
 pub struct Brought {
     pub settings: Settings,
     pub reading: Tu,
@@ -31,7 +32,7 @@ pub struct Brought {
 }
 
 // Why a first frame is refused: the steps 1 to 11, in order.
-#[derive(Drop)]
+#[derive(Clone, Copy)]
 pub enum Refusal {
     IllFormed,
     Wrapped,
@@ -84,7 +85,7 @@ pub fn spares(why: Refusal) -> bool
 }
 
 // What a receive answers.
-#[derive(Drop)]
+#[derive(Clone, Copy)]
 pub enum Answer {
     Accepted,
     ClockOut,
@@ -129,7 +130,7 @@ pub fn answer_number(answer: Answer) -> u8
 }
 
 // What a removal answers, and what a look-up.
-#[derive(Drop)]
+#[derive(Clone, Copy)]
 pub enum Removal {
     ClockOut,
     GroupAddress,
@@ -137,7 +138,7 @@ pub enum Removal {
     Removed,
 }
 
-#[derive(Drop)]
+#[derive(Clone, Copy)]
 pub enum LookUp {
     ClockOut,
     GroupAddress,
@@ -168,7 +169,7 @@ pub fn look_number(answer: LookUp) -> u8
 }
 
 // What a frame leaves of this peer's record: the same, none, or another.
-#[derive(Drop)]
+#[derive(Clone, Copy)]
 pub enum Leaves {
     Same,
     Gone,
@@ -176,7 +177,7 @@ pub enum Leaves {
 }
 
 // What a frame gets: the answer, the octets of the reply, and what it leaves of the record. `pmkid` is that of the record that it `Becomes`, else zeros.
-#[derive(Drop)]
+#[derive(Clone, Copy)]
 pub struct Verdict {
     pub answer: Answer,
     pub length: usize,

@@ -1,4 +1,6 @@
 // Which elements of a body stand where: one walk that marks each kind that the rules speak of.
+#![tactic(auto)]
+
 ghost use Rattle.std.specs.Prelude.{◌≡◌};
 ghost use Rattle.elements.specs.Walk.{walk};
 ghost use Rattle.scan.specs.Scan.{kind_of, kind_number, plain_kind, extended_kind, scan_by, scan_of};
@@ -8,7 +10,7 @@ ghost use Rattle.scan.specs.Noting.{seen_of, mark_of};
 use elements::{Element, Extension, HEADER, LONGEST_BODY, Met, Part};
 
 // The elements that the rules speak of; all others are skipped.
-#[derive(Drop)]
+#[derive(Clone, Copy)]
 pub enum Kind {
     Rsne,
     Timeout,
@@ -60,14 +62,14 @@ fn kind_of(e: Element) -> Kind
 }
 
 // How many elements of a kind there are, and the content of the first.
-#[derive(Drop)]
+#[derive(Clone, Copy)]
 pub enum Times {
     None,
     One(Part),
     More(Part),
 }
 
-#[derive(Drop)]
+#[derive(Clone, Copy)]
 pub struct Places {
     pub rsne: Times,
     pub timeout: Times,
@@ -123,7 +125,7 @@ fn mark(kind: Kind, of: Kind, t: Times, content: Part) -> Times
 }
 
 // A walk over a whole body: the place of the element that it failed at, or what stands where.
-#[derive(Drop)]
+#[derive(Clone, Copy)]
 pub enum Scan {
     Failed(usize),
     Walked(Places),

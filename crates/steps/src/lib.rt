@@ -1,4 +1,6 @@
 // The steps of the first frame that choose: its suites, its group and the PMKID, and the lifetime.
+#![tactic(auto)]
+
 ghost use Rattle.std.specs.Prelude.{◌≡◌, true, ◌+◌, ◌*◌, ◌≤◌, length, take, drop};
 ghost use Rattle.cache.specs.File.{is_well_formed};
 ghost use Rattle.rules.specs.OnePeer.{is_suite, step4, step5, is_protected, suite_steps, key_steps, step10, lifetime_of};
@@ -20,7 +22,7 @@ fn is_suite(s: Suite, kind: u8) -> bool
     }
 }
 
-#[derive(Drop)]
+#[derive(Clone, Copy)]
 enum CipherStep {
     Chosen(u8),
     Refused,
@@ -81,7 +83,7 @@ fn is_protected(capabilities: u16) -> bool
     false
 }
 
-#[derive(Drop)]
+#[derive(Clone, Copy)]
 pub enum SuiteSteps {
     Passed { cipher: u8, akm: Akm },
     Refused(Refusal),
@@ -121,7 +123,7 @@ pub fn suite_steps(settings: Settings, format: u8, rsne: Rsne) -> SuiteSteps
     SuiteSteps::Refused(Refusal::Unprotected)
 }
 
-#[derive(Drop)]
+#[derive(Clone, Copy)]
 pub enum KeySteps {
     Passed(Group),
     Refused(Refusal),
@@ -157,7 +159,7 @@ fn pmkid_at(pmkids: &[u8], k: usize) -> [u8; 16]
 }
 
 // What step 10 shows: whether it passed, and the PMKID that was chosen, or none, and then zeros.
-#[derive(Drop)]
+#[derive(Clone, Copy)]
 pub struct PmkidStep {
     pub passed: bool,
     pub cached: bool,

@@ -1,4 +1,6 @@
 // The fixed tables of suites and groups, and the suite as it stands in a frame.
+#![tactic(auto)]
+
 ghost use Rattle.std.specs.Prelude.{◌≡◌, ◌+◌, ◌≤◌, length};
 ghost use Rattle.octets.specs.Wrote.{Wrote};
 ghost use Rattle.suites.specs.Suite.{suite_at, suite_octets};
@@ -12,7 +14,7 @@ pub const OUI_1: u8 = 0x0f;
 pub const OUI_2: u8 = 0xac;
 
 // A suite in a frame: one that counts, with its type, or one of another selector.
-#[derive(Drop)]
+#[derive(Clone, Copy)]
 pub enum Suite {
     Ours(u8),
     Other,
@@ -43,14 +45,14 @@ pub fn put_suite(d: &mut [u8], kind: u8) -> usize
 }
 
 // An AKM: its type, the octets of the MIC that goes with it, and whether it needs a PMK.
-#[derive(Drop)]
+#[derive(Clone, Copy)]
 pub struct Akm {
     pub kind: u8,
     pub mic: usize,
     pub pmk: bool,
 }
 
-#[derive(Drop)]
+#[derive(Clone, Copy)]
 pub enum AkmEntry {
     In(Akm),
     NotInTable,
@@ -117,13 +119,13 @@ pub fn is_mic_length(n: usize) -> bool
 pub const GROUP_CIPHER: u8 = 7;
 
 // A pairwise cipher: its type, and its flag among the settings' allowed ciphers.
-#[derive(Drop)]
+#[derive(Clone, Copy)]
 pub struct Cipher {
     pub kind: u8,
     pub flag: u8,
 }
 
-#[derive(Drop)]
+#[derive(Clone, Copy)]
 pub enum CipherEntry {
     In(Cipher),
     NotInTable,
@@ -149,7 +151,7 @@ pub fn cipher_of(kind: u8) -> CipherEntry
 }
 
 // How a public key may be written: its octets, and the first octets that it may have, from `lowest` to `highest`.
-#[derive(Drop)]
+#[derive(Clone, Copy)]
 pub struct KeyForm {
     pub length: usize,
     pub lowest: u8,
@@ -157,14 +159,14 @@ pub struct KeyForm {
 }
 
 // A finite cyclic group, and the two forms of its public keys.
-#[derive(Drop)]
+#[derive(Clone, Copy)]
 pub struct Group {
     pub number: u16,
     pub compressed: KeyForm,
     pub uncompressed: KeyForm,
 }
 
-#[derive(Drop)]
+#[derive(Clone, Copy)]
 pub enum GroupEntry {
     In(Group),
     NotInTable,

@@ -1,13 +1,15 @@
 // Seconds and TU, the two units of time. Only `in_tu` leads from one to the other, and nothing leads back.
+#![tactic(auto)]
+
 ghost use Rattle.std.specs.Prelude.{◌≡◌};
 ghost use Rattle.units.specs.Units.{in_tu, in_clock};
 
 // Key lifetimes.
-#[derive(Drop)]
+#[derive(Clone, Copy)]
 pub struct Seconds(pub u32);
 
 // Deadlines, ends and clock readings: 1,024 microseconds each.
-#[derive(Drop)]
+#[derive(Clone, Copy)]
 pub struct Tu(pub u64);
 
 // The highest clock reading, 2^48.

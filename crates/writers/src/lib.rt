@@ -1,3 +1,5 @@
 // The frames as they are written, each as a whole.
+#![tactic(auto)]
+
 pub mod header;
 pub mod second;

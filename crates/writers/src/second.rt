@@ -29,7 +29,7 @@ pub fn longest() -> usize
 }
 
 // What a second frame says, beside the PMKID or none and the key.
-#[derive(Drop)]
+#[derive(Clone, Copy)]
 pub struct Chosen {
     pub algorithm: u16,
     pub cipher: u8,

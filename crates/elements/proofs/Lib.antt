@@ -2,4 +2,3 @@ pub mod Cases
 pub mod Standing
 pub mod Walk
 pub mod Written
-pub mod ByHand

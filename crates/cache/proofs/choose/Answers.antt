@@ -1,0 +1,24 @@
+use mathlib.Core.Path.{sym, ◌∙◌}
+use Prim.Native.Nat.{◌-◌}
+use borrow.Author.Rules.{rules}
+use Rattle.cache.specs.File.{records_of}
+use Rattle.cache.proofs.Search.{Tried, tried_none, tried_stops, tried_more, tried_all}
+use Rattle.cache.proofs.choose.Goals as goal
+
+pub loop-k-init : goal.loop-k-init
+loop-k-init c = tried_none _ _ _ _ _
+
+pub returns-in-Until : goal.returns-in-Until
+returns-in-Until c =
+    let p = c in
+    let q = p in
+    sym (tried_stops q.loop-k.invariant q.loop-k-test.true (sym p.find-found.ensures ∙ c.in-Until.is))
+
+pub loop-k-preserved : goal.loop-k-preserved
+loop-k-preserved c =
+    let p = c in
+    let q = p in
+    tried_more q.loop-k.invariant q.loop-k-test.true (sym p.find-found.ensures ∙ c.in-Nothing.is)
+
+pub returns : goal.returns
+returns c = sym (tried_all c.loop-k.invariant c.loop-k-test.false)

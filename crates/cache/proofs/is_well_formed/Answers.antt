@@ -1,0 +1,37 @@
+use mathlib.Core.Path.{sym, ◌∙◌}
+use Prim.Native.Nat.{◌-◌}
+use native.Mathlib.Omega.{arith}
+use borrow.Author.Rules.{rules}
+use lib.ListN.{length}
+use Rattle.cache.proofs.Check.{Checked, checked_none, checked_goes, checked_more, checked_all, checked_ill}
+use Rattle.cache.proofs.is_well_formed.Goals as goal
+
+pub loop-record-init : goal.loop-record-init
+loop-record-init c = checked_none _
+
+pub read_at-read-requires : goal.read_at-read-requires
+read_at-read-requires c = c.loop-record.invariant.within
+
+pub overflow_add-count : goal.overflow_add-count
+overflow_add-count c = let g = c.loop-record.invariant in omega (arith, g.counted, g.within)
+
+pub loop-record-smaller : goal.loop-record-smaller
+loop-record-smaller c =
+    let p = c in
+    let w = checked_goes p.loop-record.invariant (sym p.read_at-read.ensures ∙ c.in-Stands.is) in
+    omega (arith, w.ahead, w.next)
+
+pub loop-record-preserved : goal.loop-record-preserved
+loop-record-preserved c =
+    let p = c in
+    checked_more p.loop-record.invariant (sym p.read_at-read.ensures ∙ c.in-Stands.is)
+
+pub returns-in-End : goal.returns-in-End
+returns-in-End c =
+    let p = c in
+    sym (checked_all p.loop-record.invariant (sym p.read_at-read.ensures ∙ c.in-End.is))
+
+pub returns-in-Ill : goal.returns-in-Ill
+returns-in-Ill c =
+    let p = c in
+    sym (checked_ill p.loop-record.invariant (sym p.read_at-read.ensures ∙ c.in-Ill.is))

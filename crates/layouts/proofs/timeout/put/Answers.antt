@@ -1,0 +1,17 @@
+use native.Mathlib.Omega.{arith}
+use Rattle.octets.proofs.Numbers.{length_octets}
+use Rattle.octets.proofs.Parts.{wrote_more}
+use Rattle.layouts.specs.Timeout.{timeout_octets}
+use borrow.Author.Rules.{rules}
+use Rattle.layouts.proofs.timeout.put.Goals as goal
+
+pub overflow_add-result : goal.overflow_add-result
+overflow_add-result c =
+    let p = c in
+    omega (arith, length_octets 4 p.args.lifetime.0)
+
+pub returns : goal.returns
+unfolding timeout_octets
+returns c =
+    let p = c in
+    wrote_more p.copy_in-head.ensures p.put_le4.ensures

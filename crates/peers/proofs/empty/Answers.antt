@@ -1,0 +1,6 @@
+use Rattle.peers.proofs.Promised.{nobody}
+use borrow.Author.Rules.{rules}
+use Rattle.peers.proofs.empty.Goals as goal
+
+pub returns : goal.returns
+returns c = nobody _ c.vacant-v.ensures

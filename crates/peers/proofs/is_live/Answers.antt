@@ -1,0 +1,5 @@
+use borrow.Author.Rules.{rules}
+use Rattle.peers.proofs.is_live.Goals as goal
+
+pub returns : goal.returns
+returns c = rw c.until-time.ensures

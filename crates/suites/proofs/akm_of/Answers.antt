@@ -1,0 +1,23 @@
+use Prim.Native.Nat.{◌-◌}
+use lib.ListN.{length}
+use borrow.Author.Rules.{rules}
+use Rattle.suites.specs.declared.Akm.{Akm}
+use Rattle.suites.specs.Tables.{akms, akm_of}
+use Rattle.suites.proofs.Lookup.{Searched, searched_none, searched_more, searched_stops, searched_all}
+use Rattle.suites.proofs.akm_of.Goals as goal
+
+pub loop-i-init : goal.loop-i-init
+unfolding akm_of
+loop-i-init c = searched_none
+
+pub returns-then-akm-kind : goal.returns-then-akm-kind
+unfolding akm_of
+returns-then-akm-kind c = let p = c in searched_stops p.loop-i.invariant _ _ _ p.loop-i-test.true c.if-akm-kind.true
+
+pub loop-i-preserved : goal.loop-i-preserved
+unfolding akm_of
+loop-i-preserved c = let p = c in searched_more p.loop-i.invariant _ p.loop-i-test.true c.if-akm-kind.false
+
+pub returns : goal.returns
+unfolding akm_of
+returns c = searched_all c.loop-i.invariant _ _ c.loop-i-test.false

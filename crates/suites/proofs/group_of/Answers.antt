@@ -1,0 +1,23 @@
+use Prim.Native.Nat.{◌-◌}
+use lib.ListN.{length}
+use borrow.Author.Rules.{rules}
+use Rattle.suites.specs.declared.Group.{Group}
+use Rattle.suites.specs.Tables.{groups, group_of}
+use Rattle.suites.proofs.Lookup.{Searched, searched_none, searched_more, searched_stops, searched_all}
+use Rattle.suites.proofs.group_of.Goals as goal
+
+pub loop-i-init : goal.loop-i-init
+unfolding group_of
+loop-i-init c = searched_none
+
+pub returns-then-group-number : goal.returns-then-group-number
+unfolding group_of
+returns-then-group-number c = let p = c in searched_stops p.loop-i.invariant _ _ _ p.loop-i-test.true c.if-group-number.true
+
+pub loop-i-preserved : goal.loop-i-preserved
+unfolding group_of
+loop-i-preserved c = let p = c in searched_more p.loop-i.invariant _ p.loop-i-test.true c.if-group-number.false
+
+pub returns : goal.returns
+unfolding group_of
+returns c = searched_all c.loop-i.invariant _ _ c.loop-i-test.false

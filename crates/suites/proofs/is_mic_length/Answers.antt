@@ -1,0 +1,23 @@
+use Prim.Native.Nat.{◌-◌}
+use lib.ListN.{length}
+use borrow.Author.Rules.{rules}
+use Rattle.suites.specs.declared.Akm.{Akm}
+use Rattle.suites.specs.Tables.{akms, is_mic_length}
+use Rattle.suites.proofs.Lookup.{Searched, searched_none, searched_more, searched_stops, searched_all}
+use Rattle.suites.proofs.is_mic_length.Goals as goal
+
+pub loop-i-init : goal.loop-i-init
+unfolding is_mic_length
+loop-i-init c = searched_none
+
+pub returns-then-akm-n : goal.returns-then-akm-n
+unfolding is_mic_length
+returns-then-akm-n c = let p = c in searched_stops p.loop-i.invariant _ _ _ p.loop-i-test.true c.if-akm-n.true
+
+pub loop-i-preserved : goal.loop-i-preserved
+unfolding is_mic_length
+loop-i-preserved c = let p = c in searched_more p.loop-i.invariant _ p.loop-i-test.true c.if-akm-n.false
+
+pub returns : goal.returns
+unfolding is_mic_length
+returns c = searched_all c.loop-i.invariant _ _ c.loop-i-test.false

@@ -1,0 +1,7 @@
+use Rattle.suites.specs.Suite.{suite_octets}
+use borrow.Author.Rules.{rules}
+use Rattle.suites.proofs.put_suite.Goals as goal
+
+pub returns : goal.returns
+unfolding suite_octets
+returns c = c.copy_in.ensures

@@ -1,0 +1,25 @@
+use mathlib.Core.Path.{◌≡◌}
+use Prim.Native.Nat.{◌/◌, ◌%◌}
+use native.Mathlib.Omega.{arith}
+use lib.ListN.{length}
+use Rattle.octets.specs.Numbers.{octets}
+use Rattle.octets.proofs.Parts.{wrote_more}
+use Rattle.suites.specs.Suite.{suite_octets}
+use Rattle.suites.proofs.Laws.{length_suite}
+use Rattle.rsne.specs.Rsne.{rsne_octets}
+use borrow.Author.Rules.{rules}
+use Rattle.rsne.proofs.put.Goals as goal
+
+pub overflow_add-result : goal.overflow_add-result
+overflow_add-result c = omega (arith, length_suite 7)
+
+pub returns : goal.returns
+unfolding rsne_octets octets suite_octets
+returns c =
+    let p = c in
+    let q = p in
+    let r = q in
+    let n = length r.args.pmkids.now in
+    let e₀ : n / 16 % 256 ≡ n / 16 = omega arith in
+    let e₁ : n / 16 / 256 % 256 ≡ 0 = omega arith in
+    rw (e₀, e₁) (wrote_more (wrote_more r.copy_in-a.ensures q.copy_in.ensures) p.put_suite.ensures)

@@ -1,0 +1,14 @@
+use mathlib.Core.Path.{sym, ◌∙◌}
+use borrow.Author.Tests.{eq-eqb, ne_eqb}
+use borrow.Author.Rules.{rules}
+use Rattle.scan.proofs.mark.Goals as goal
+
+pub returns-then-kind_number : goal.returns-then-kind_number
+returns-then-kind_number c =
+    let n = c in
+    rw (eq-eqb _ _ (sym n.kind_number.ensures ∙ c.if-kind_number.true ∙ n.kind_number-2.ensures)) c.seen.ensures
+
+pub returns : goal.returns
+returns c =
+    let n = c in
+    rw (ne_eqb _ _ (λ e. c.if-kind_number.false (n.kind_number.ensures ∙ e ∙ sym n.kind_number-2.ensures)))

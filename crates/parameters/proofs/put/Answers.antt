@@ -1,11 +1,12 @@
 use mathlib.Core.List.{List, []}
 use mathlib.Core.Path.{◌≡◌, ap₂, ◌∙◌}
-use Prim.Native.Nat.{ℕ, ◌+◌, ◌*◌, ◌≤◌}
+use Prim.Native.Nat.{ℕ, ◌+◌, ◌*◌, ◌-◌, ◌≤◌}
 use native.Mathlib.Omega.{arith}
-use lib.ListN.{length, take}
+use lib.ListN.{length, take, drop}
+use borrow.Rule.Slice.PartMut.{put_mid}
 use lib.Seq.{length-take-le}
 use Rattle.octets.specs.Wrote.{Wrote}
-use Rattle.octets.proofs.Parts.{wrote_front, wrote_room, wrote_more}
+use Rattle.octets.proofs.Parts.{Room, wrote_front, wrote_room, wrote_more}
 use Rattle.parameters.specs.declared.Side.{Side}
 use Rattle.parameters.specs.Parameters.{Said, Fits, parameters_octets, comeback_octets, offer_octets, side_of, comeback_by, offer_by, said_by}
 use Rattle.parameters.proofs.Laws.{bit_most, control_by, length_content, length_parameters, wrote_parameters}
@@ -22,6 +23,19 @@ fits side said n room =
     let m = length_content side said in
     (omega (arith, room), omega (arith, room))
 
+-- After each writer: what stands, and the room for the next one.
+module _ (side : Side) (said : Said side) {d : List ℕ} (room : Fits 257 (parameters_octets side said) (length d)) where
+  front : Wrote (take 5 d) 5 d d
+  front = wrote_front d 5 (omega (arith, (fits side said (length d) room).1))
+
+  module _ {b : ℕ} {after : List ℕ} (w : Wrote (comeback_octets side said.comeback) b (take (length d - 5) (drop 5 d)) after) where
+    second_room : Room (wrote_more front w) (length (offer_octets said.offer))
+    second_room = wrote_room (wrote_more front w) _ (omega (arith, (fits side said (length d) room).1, w.tells))
+
+    module _ {e : ℕ} {last : List ℕ} (v : Wrote (offer_octets said.offer) e (take (length (put_mid 5 (length d - 5) d after) - (5 + b)) (drop (5 + b) (put_mid 5 (length d - 5) d after))) last) where
+      third_room : Room (wrote_more (wrote_more front w) v) 0
+      third_room = wrote_room (wrote_more (wrote_more front w) v) 0 (omega (arith, (fits side said (length d) room).1, w.tells, v.tells))
+
 pub overflow_mul-control : goal.overflow_mul-control
 overflow_mul-control c = omega (arith, c.b1_of.ensures, bit_most (offer_by c.args.written.offer []))
 
@@ -30,29 +44,48 @@ overflow_add-control c =
     let w = c.args.written in
     omega (arith, c.b0_of.ensures, bit_most (comeback_by w.comeback []), c.b1_of.ensures, bit_most (offer_by w.offer []))
 
+pub slice_bounds-put_comeback-start : goal.slice_bounds-put_comeback-start
+slice_bounds-put_comeback-start c =
+    let f = fits _ _ _ c.requires in
+    (wrote_room (wrote_front c.args.d.now 5 (omega (arith, f.1))) 0 (omega (arith, f.1))).start
+
 pub slice_bounds-put_comeback-count : goal.slice_bounds-put_comeback-count
-slice_bounds-put_comeback-count c = ?
+slice_bounds-put_comeback-count c = omega (arith, (fits _ _ _ c.requires).1)
 
 pub put_comeback-requires : goal.put_comeback-requires
-put_comeback-requires c = ?
+put_comeback-requires c =
+    let f = fits _ _ _ c.requires in
+    let w = wrote_front c.args.d.now 5 (omega (arith, f.1)) in
+    record { short = omega (arith, f.0); room = (wrote_room w _ (omega (arith, f.1))).room }
 
 pub overflow_add-b : goal.overflow_add-b
-overflow_add-b c = ?
+overflow_add-b c =
+    let f = fits _ _ _ c.requires in
+    omega (arith, f.0, c.put_comeback.ensures.tells)
+
+pub slice_bounds-put_offer-start : goal.slice_bounds-put_offer-start
+slice_bounds-put_offer-start c = omega (arith, (second_room _ _ c.requires c.put_comeback.ensures).start)
 
 pub slice_bounds-put_offer-count : goal.slice_bounds-put_offer-count
-slice_bounds-put_offer-count c = ?
+slice_bounds-put_offer-count c = (second_room _ _ c.requires c.put_comeback.ensures).start
 
 pub put_offer-requires : goal.put_offer-requires
-put_offer-requires c = ?
+put_offer-requires c =
+    record { short = omega (arith, (fits _ _ _ c.requires).0); room = (second_room _ _ c.requires c.put_comeback.ensures).room }
 
 pub overflow_add-end : goal.overflow_add-end
-overflow_add-end c = ?
+overflow_add-end c = omega (arith, (fits _ _ _ c.requires).0, c.put_comeback.ensures.tells, c.put_offer.ensures.tells)
 
 pub overflow_cast-end : goal.overflow_cast-end
-overflow_cast-end c = ?
+overflow_cast-end c = omega (arith, (fits _ _ _ c.requires).0, c.put_comeback.ensures.tells, c.put_offer.ensures.tells)
 
 pub copy_in-requires : goal.copy_in-requires
-copy_in-requires c = ?
+copy_in-requires c = omega (arith, (third_room _ _ c.requires c.put_comeback.ensures c.put_offer.ensures).start)
 
 pub returns : goal.returns
-returns c = ?
+returns c =
+    let w = c.args.written in
+    let f = fits _ _ _ c.requires in
+    wrote_parameters (side_of w.comeback) (said_by w c.args.cookie.now c.args.key.now) (take 5 c.args.d.now) (length-take-le 5 c.args.d.now (omega (arith, f.1)))
+    (wrote_more (wrote_more (front (side_of w.comeback) (said_by w c.args.cookie.now c.args.key.now) c.requires) c.put_comeback.ensures) c.put_offer.ensures) c.copy_in.ensures
+    (ap₂ (λ (m n : ℕ). m + 2 * n) c.b0_of.ensures c.b1_of.ensures ∙ control_by w c.args.cookie.now c.args.key.now)

@@ -1,18 +1,14 @@
 -- An enum at a match: what is known of the variant that the code goes on with, and what the enum is otherwise.
 use mathlib.Core.Path.{◌≡◌, refl, subst}
-use mathlib.Core.Logic.{◌⊎◌, ⊎_elim}
 use mathlib.Core.Option.{none}
 use Prim.Native.Nat.{ℕ}
 use native.Mathlib.Omega.{arith}
-use denote.Enum.Declared.{tag_of}
 use Rattle.elements.specs.declared.Part.{Part}
 use Rattle.scan.specs.declared.Times.{Times}
 use Rattle.scan.specs.declared.Times.TheVariants.{None, One, More}
 use Rattle.elements.specs.Lies.{Lies}
 use Rattle.scan.specs.Within.{LiesIf, Ordered}
-use Rattle.scan.specs.contracts.Times as Times'
 use Rattle.parameters.specs.declared.Comeback.{Comeback}
-use Rattle.parameters.specs.contracts.Comeback as Comeback'
 use Rattle.frames.specs.Contents.{never, no_comeback}
 
 -- where the one element of a kind lies
@@ -25,17 +21,17 @@ ordered n (One p) l = omega arith
 ordered n (More p) l = omega arith
 
 pub not_one {ℓ} : {A : Type ℓ} (f : Times → A) {x : A} → f None ≡ x → ((p : Part) → f (More p) ≡ x)
-    → (t : Times) → (tag_of Times'.the_type t ≡ 0) ⊎ (tag_of Times'.the_type t ≡ 2) → f t ≡ x
+    → (t : Times) → ((p : Part) → t ≡ One p → ⊥) → f t ≡ x
 not_one f n m None h = n
-not_one f n m (One p) h = absurd (⊎_elim (λ e. omega arith) (λ e. omega arith) h)
+not_one f n m (One p) h = absurd (h p refl)
 not_one f n m (More p) h = m p
 
-pub not_none : (t : Times) → (tag_of Times'.the_type t ≡ 1) ⊎ (tag_of Times'.the_type t ≡ 2) → none ≡ never t
-not_none None h = absurd (⊎_elim (λ e. omega arith) (λ e. omega arith) h)
+pub not_none : (t : Times) → (t ≡ None → ⊥) → none ≡ never t
+not_none None h = absurd (h refl)
 not_none (One p) h = refl
 not_none (More p) h = refl
 
-pub not_absent : (k : Comeback) → (tag_of Comeback'.the_type k ≡ 0) ⊎ (tag_of Comeback'.the_type k ≡ 1) → none ≡ no_comeback k
+pub not_absent : (k : Comeback) → (k ≡ Comeback.Absent → ⊥) → none ≡ no_comeback k
 not_absent (Comeback.Cookie p) h = refl
 not_absent (Comeback.After after p) h = refl
-not_absent Comeback.Absent h = absurd (⊎_elim (λ e. omega arith) (λ e. omega arith) h)
+not_absent Comeback.Absent h = absurd (h refl)

@@ -1,0 +1,21 @@
+use mathlib.Core.Path.{sym, ◌∙◌}
+use native.Mathlib.Omega.{arith}
+use Rattle.frames.proofs.Otherwise.{one_lies}
+use borrow.Author.Rules.{rules}
+use Rattle.frames.proofs.contents.read_lifetime.Goals as goal
+
+pub slice_bounds-read-count : goal.slice_bounds-read-count
+slice_bounds-read-count c = omega (arith, one_lies c.in-One.is c.requires)
+
+pub returns-in-None : goal.returns-in-None
+returns-in-None c = rw c.in-None.is
+
+pub returns-in-Lifetime : goal.returns-in-Lifetime
+returns-in-Lifetime c =
+    let p = c in
+    rw (p.in-One.is, sym p.read-reading.ensures ∙ c.in-Lifetime.is)
+
+pub returns-in-Ill : goal.returns-in-Ill
+returns-in-Ill c =
+    let p = c in
+    rw (p.in-One.is, sym p.read-reading.ensures ∙ c.in-Ill.is)

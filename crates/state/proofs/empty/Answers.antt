@@ -1,0 +1,9 @@
+use mathlib.Core.Path.{refl}
+use Rattle.peers.specs.View.{vacant_peer}
+use Rattle.peers.proofs.Promised.{nobody}
+use Rattle.state.proofs.Stores.{zeros}
+use borrow.Author.Rules.{rules}
+use Rattle.state.proofs.empty.Goals as goal
+
+pub returns : goal.returns
+returns c = rw (zeros c.zero.ensures (search rules)) (nobody vacant_peer refl)

@@ -1,0 +1,32 @@
+use Prim.Native.Nat.{◌-◌}
+use mathlib.Core.Path.{sym, ◌∙◌}
+use mathlib.Core.Logic.{⊎_elim}
+use borrow.Author.Rules.{rules}
+use Rattle.peers.proofs.Places.{Searched, searched_none, searched_stops, searched_taken, searched_free, searched_all}
+use Rattle.state.specs.State.{table_of}
+use Rattle.state.proofs.Places.{places}
+use Rattle.state.proofs.find.Goals as goal
+
+pub loop-i-init : goal.loop-i-init
+loop-i-init c = searched_none _ _ _ (places _)
+
+pub returns-then-of_at : goal.returns-then-of_at
+returns-then-of_at c =
+    let p = c in
+    let q = p in
+    searched_stops q.loop-i.invariant q.loop-i-test.true (sym p.live_at.ensures ∙ c.if-live_at.true) (sym c.of_at.ensures ∙ c.if-of_at.true)
+
+pub loop-i-preserved : goal.loop-i-preserved
+loop-i-preserved c =
+    let q = c in
+    let h = sym c.live_at.ensures in
+    ⊎_elim
+    (λ w. rw w.4 (searched_taken q.loop-i.invariant q.loop-i-test.true (h ∙ w.0.taken) (sym w.2.ensures ∙ w.3.left)))
+    (λ w. rw w.1 (searched_free q.loop-i.invariant q.loop-i-test.true (h ∙ w.0.left)))
+    c.if-live_at.branch
+
+pub returns-then-free : goal.returns-then-free
+returns-then-free c = rw c.if-free.true at (searched_all c.loop-i.invariant c.loop-i-test.false)
+
+pub returns : goal.returns
+returns c = rw c.if-free.false at (searched_all c.loop-i.invariant c.loop-i-test.false)

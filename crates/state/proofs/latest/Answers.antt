@@ -1,0 +1,7 @@
+use Rattle.state.specs.State.{table_of}
+use borrow.Author.Rules.{rules}
+use Rattle.state.proofs.latest.Goals as goal
+
+pub returns : goal.returns
+unfolding table_of
+returns c = rw c.le8.ensures

@@ -1,0 +1,7 @@
+use mathlib.Core.Path.{sym}
+use Rattle.state.proofs.Places.{lives}
+use borrow.Author.Rules.{rules}
+use Rattle.state.proofs.live_at.Goals as goal
+
+pub returns : goal.returns
+returns c = rw c.le8.ensures (sym (lives _ _ c.requires.0 _))

@@ -1,0 +1,13 @@
+use Prim.Native.Nat.{ℕ, ◌+◌, ◌*◌}
+use mathlib.Core.Path.{sym, ap, ◌∙◌}
+use mathlib.Core.List.{List}
+use Rattle.octets.specs.Equality.{same_octets}
+use Rattle.records.specs.Record.{address_at, record_size}
+use Rattle.state.proofs.Places.{part, address_stands}
+use borrow.Author.Rules.{rules}
+use Rattle.state.proofs.of_at.Goals as goal
+
+pub returns : goal.returns
+returns c =
+    let p = c in
+    c.same.ensures ∙ ap (λ (l : List ℕ). same_octets l p.args.address.now) (part p.args.s.now (record_size * p.args.i + address_at) 6 ∙ sym (address_stands _ _ p.requires.0))

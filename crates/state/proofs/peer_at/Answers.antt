@@ -1,0 +1,11 @@
+use Prim.Native.Nat.{◌*◌}
+use mathlib.Core.Path.{sym, ap, ◌∙◌}
+use Rattle.records.specs.Record.{record_size, peer_of}
+use Rattle.state.proofs.Places.{part, peer_at}
+use borrow.Author.Rules.{rules}
+use Rattle.state.proofs.peer_at.Goals as goal
+
+pub returns : goal.returns
+returns c =
+    let p = c in
+    c.read.ensures ∙ ap peer_of (part p.args.s.now (record_size * p.args.i) record_size) ∙ sym (peer_at _ _ p.requires.0)

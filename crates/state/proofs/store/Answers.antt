@@ -1,0 +1,10 @@
+use mathlib.Core.Path.{sym, ◌∙◌}
+use Rattle.state.proofs.Stores.{stores}
+use borrow.Author.Rules.{rules}
+use Rattle.state.proofs.store.Goals as goal
+
+pub returns : goal.returns
+returns c =
+    let p = c in
+    let e = c.put.ensures in
+    stores _ p.requires.1 _ p.requires.0 (sym e.wrote.tells) e.wrote ∙ rw e.reads

@@ -9,18 +9,18 @@ use Rattle.peers.proofs.Promised.{elsewhere, drops}
 use Rattle.state.specs.State.{table_of}
 use Rattle.state.proofs.Places.{places}
 use Rattle.state.proofs.drop.Goals as goal
+use Rattle.state.proofs.drop.Goals.{then-of_at, else-of_at}
 
 pub loop-j-init : goal.loop-j-init
 loop-j-init c = filling_begins _ _ _ (places _)
 
 pub loop-j-preserved : goal.loop-j-preserved
 loop-j-preserved c =
-    let q = c in
     let h = sym c.of_at.ensures in
-    ⊎_elim
-    (λ w. rw (w.3, w.2.ensures) (filling_stores _ q.loop-j.invariant q.loop-j-test.true (ap not (h ∙ w.0.taken))))
-    (λ w. rw w.1 (filling_keeps _ q.loop-j.invariant q.loop-j-test.true (ap not (h ∙ w.0.left))))
-    c.if-of_at.branch
+    elim c.if-of_at.branch [
+      then-of_at w ↦ rw (w.s-is, w.clear.ensures) (filling_stores _ c.loop-j.invariant c.loop-j-test.true (ap not (h ∙ w.if-of_at.true)))
+    | else-of_at w ↦ rw w.s-is (filling_keeps _ c.loop-j.invariant c.loop-j-test.true (ap not (h ∙ w.if-of_at.false)))
+    ]
 
 pub returns : goal.returns
 returns c = drops _ _ _ (filling_ends _ c.loop-j.invariant c.loop-j-test.false) c.loop-j.invariant.latest

@@ -6,6 +6,7 @@ use Rattle.peers.proofs.Places.{Searched, searched_none, searched_stops, searche
 use Rattle.state.specs.State.{table_of}
 use Rattle.state.proofs.Places.{places}
 use Rattle.state.proofs.find.Goals as goal
+use Rattle.state.proofs.find.Goals.{then-live_at+else-of_at, else-live_at}
 
 pub loop-i-init : goal.loop-i-init
 loop-i-init c = searched_none _ _ _ (places _)
@@ -18,12 +19,12 @@ returns-then-of_at c =
 
 pub loop-i-preserved : goal.loop-i-preserved
 loop-i-preserved c =
-    let q = c in
     let h = sym c.live_at.ensures in
-    ⊎_elim
-    (λ w. rw w.4 (searched_taken q.loop-i.invariant q.loop-i-test.true (h ∙ w.0.taken) (sym w.2.ensures ∙ w.3.left)))
-    (λ w. rw w.1 (searched_free q.loop-i.invariant q.loop-i-test.true (h ∙ w.0.left)))
-    c.if-live_at.branch
+    elim c.if-live_at.branch [
+      then-live_at+else-of_at w ↦
+        rw w.free-is (searched_taken c.loop-i.invariant c.loop-i-test.true (h ∙ w.if-live_at.true) (sym w.of_at.ensures ∙ w.if-of_at.false))
+    | else-live_at w ↦ rw w.free-is (searched_free c.loop-i.invariant c.loop-i-test.true (h ∙ w.if-live_at.false))
+    ]
 
 pub returns-then-free : goal.returns-then-free
 returns-then-free c = rw c.if-free.true at (searched_all c.loop-i.invariant c.loop-i-test.false)

@@ -10,20 +10,24 @@ use Rattle.peers.proofs.Promised.{taken, puts}
 use Rattle.state.specs.State.{table_of}
 use Rattle.state.proofs.Places.{places}
 use Rattle.state.proofs.put.Goals as goal
+use Rattle.state.proofs.put.Goals.{then-not-other_at+then-placed, then-not-other_at+else-placed, else-not-other_at}
 
 pub loop-k-init : goal.loop-k-init
 loop-k-init c = filling_begins _ _ _ (places _)
 
 pub loop-k-preserved : goal.loop-k-preserved
 loop-k-preserved c =
-    let q = c in
-    let i = q.loop-k.invariant in
-    ⊎_elim
-    (λ w. rw (w.4, w.5, w.3.ensures, w.1.taken) (filling_stores _ (rw w.1.taken at i) q.loop-k-test.true (sym c.other_at.ensures ∙ not-true _ w.0.taken)))
-    (⊎_elim
-    (λ w. rw (w.4, w.5, w.3.ensures) (filling_stores _ (rw w.1.left at i) q.loop-k-test.true (sym c.other_at.ensures ∙ not-true _ w.0.taken)))
-    (λ w. rw (w.1, w.2) (filling_keeps _ i q.loop-k-test.true (sym c.other_at.ensures ∙ not-false _ w.0.left))))
-    c.if-not-other_at.branch
+    let i = c.loop-k.invariant in
+    elim c.if-not-other_at.branch [
+      then-not-other_at+then-placed w ↦
+        rw (w.s-is, w.placed-is, w.clear.ensures, w.if-placed.true)
+        (filling_stores _ (rw w.if-placed.true at i) c.loop-k-test.true (sym c.other_at.ensures ∙ w.if-not-other_at.true))
+    | then-not-other_at+else-placed w ↦
+        rw (w.s-is, w.placed-is, w.store.ensures)
+        (filling_stores _ (rw w.if-placed.false at i) c.loop-k-test.true (sym c.other_at.ensures ∙ w.if-not-other_at.true))
+    | else-not-other_at w ↦
+        rw (w.s-is, w.placed-is) (filling_keeps _ i c.loop-k-test.true (sym c.other_at.ensures ∙ w.if-not-other_at.false))
+    ]
 
 pub returns : goal.returns
 returns c = puts _ (places _) _ _ (rw c.latest-reading.ensures at (filling_ends _ c.loop-k.invariant c.loop-k-test.false)) c.loop-k.invariant.latest

@@ -5,7 +5,7 @@ use borrow.Author.Rules.{rules}
 use Rattle.chip.proofs.mic_at.Goals as goal
 
 pub returns-in_default : goal.returns-in_default
-returns-in_default c = sym (not_one mic_at refl (λ p. refl) c.args.mic c.in_default.keys2)
+returns-in_default c = sym (not_one mic_at refl (λ p. refl) c.args.mic c.in_default.not-One)
 
 pub overflow_sub-p : goal.overflow_sub-p
 overflow_sub-p c =

@@ -33,6 +33,13 @@ slice_bounds-copy_in-count c =
     let r = q in
     omega (arith, mic_lies r.args.body.now p.in-At.at (sym q.mic_in-place.ensures ∙ p.in-At.is))
 
+pub slice_bounds-copy_in-start : goal.slice_bounds-copy_in-start
+slice_bounds-copy_in-start c =
+    let p = c in
+    let q = p in
+    let r = q in
+    omega (arith, mic_lies r.args.body.now p.in-At.at (sym q.mic_in-place.ensures ∙ p.in-At.is))
+
 pub copy_in-requires : goal.copy_in-requires
 copy_in-requires c =
     let p = c in

@@ -30,6 +30,15 @@ slice_bounds-zero-count c =
     let u = s in
     omega (arith, wrote_length p.copy_in.ensures q.if-out-body.false, q.if-out-body.false, mic_lies u.args.body.now r.in-At.mic (sym s.mic_in-place.ensures ∙ r.in-At.is))
 
+pub slice_bounds-zero-start : goal.slice_bounds-zero-start
+slice_bounds-zero-start c =
+    let p = c in
+    let q = p in
+    let r = q in
+    let s = r in
+    let u = s in
+    omega (arith, wrote_length p.copy_in.ensures q.if-out-body.false, q.if-out-body.false, mic_lies u.args.body.now r.in-At.mic (sym s.mic_in-place.ensures ∙ r.in-At.is))
+
 pub overflow_sub-end : goal.overflow_sub-end
 overflow_sub-end c =
     let p = c in

@@ -2,7 +2,7 @@ use mathlib.Core.Path.{◌≡◌, ◌∙◌}
 use Prim.Native.Nat.{◌+◌}
 use native.Mathlib.Omega.{arith}
 use lib.ListN.{length}
-use Rattle.octets.proofs.Parts.{Room, wrote_room, wrote_more}
+use Rattle.octets.proofs.Parts.{wrote_room, wrote_more}
 use Rattle.parameters.specs.declared.Side.TheVariants.{AccessPoint}
 use Rattle.layouts.specs.Mic.{mic_size}
 use Rattle.parameters.specs.Parameters.{parameters_size}
@@ -18,105 +18,117 @@ use Rattle.writers.proofs.header.Laws.{length_header}
 use borrow.Author.Rules.{rules}
 use Rattle.writers.proofs.second.put.Goals as goal
 
-told_1 : (c : tie.After-put) → c.put.result ≡ header_size
-told_1 c = c.put.ensures.tells ∙ length_header _ _ _
-
-room_1 : (c : tie.After-put) → Room c.put.ensures (length (start c).args.pmkids.now + rsne_size)
-room_1 c = wrote_room c.put.ensures _ (omega (arith, (start c).requires, told_1 c))
-
-told_2 : (c : tie.After-put2) → c.put2.result ≡ length (start (header c)).args.pmkids.now + rsne_size
-told_2 c = c.put2.ensures.tells ∙ length_rsne _ _ _
-
-room_2 : (c : tie.After-put2) → Room (wrote_more (header c).put.ensures c.put2.ensures) timeout_size
-room_2 c = wrote_room (wrote_more (header c).put.ensures c.put2.ensures) _ (omega (arith, (start (header c)).requires, told_1 (header c), told_2 c))
-
-told_3 : (c : tie.After-put3) → c.put3.result ≡ timeout_size
-told_3 c = c.put3.ensures.tells ∙ length_timeout _
-
-room_3 : (c : tie.After-put3)
-    → Room (wrote_more (wrote_more (header (rsne c)).put.ensures (rsne c).put2.ensures) c.put3.ensures) (length (start (header (rsne c))).args.key.now + parameters_size)
-room_3 c =
-    let b = rsne c in
-    wrote_room (wrote_more (wrote_more (header b).put.ensures b.put2.ensures) c.put3.ensures) _
-    (omega (arith, (start (header b)).requires, told_1 (header b), told_2 b, told_3 c))
-
-told_4 : (c : tie.After-put4) → c.put4.result ≡ length (start (header (rsne (timeout c)))).args.key.now + parameters_size
-told_4 c = c.put4.ensures.tells ∙ length_with_key AccessPoint _ _ _
-
-room_4 : (c : tie.After-put4)
-    → Room (wrote_more (wrote_more (wrote_more (header (rsne (timeout c))).put.ensures (rsne (timeout c)).put2.ensures) (timeout c).put3.ensures) c.put4.ensures)
-    ((start (header (rsne (timeout c)))).args.chosen.mic + mic_size)
-room_4 c =
-    let d = timeout c in
-    let b = rsne d in
-    wrote_room (wrote_more (wrote_more (wrote_more (header b).put.ensures b.put2.ensures) d.put3.ensures) c.put4.ensures) _
-    (omega (arith, (start (header b)).requires, told_1 (header b), told_2 b, told_3 d, told_4 c))
-
-told_5 : (c : tie.After-put5) → c.put5.result ≡ (start (header (rsne (timeout (parameters c))))).args.chosen.mic + mic_size
-told_5 c = c.put5.ensures.tells ∙ length_mic _
+-- Each answer says first how many octets each writer told, and then what room is left for the next one.
+pub slice_bounds-put-start : goal.slice_bounds-put-start
+slice_bounds-put-start c =
+    let t1 : c.put-a.result ≡ header_size = c.put-a.ensures.tells ∙ length_header _ _ _ in
+    (wrote_room c.put-a.ensures 0 (omega arith)).start
 
 pub slice_bounds-put-count : goal.slice_bounds-put-count
-slice_bounds-put-count c = (room_1 c).start
+slice_bounds-put-count c =
+    let t1 : c.put-a.result ≡ header_size = c.put-a.ensures.tells ∙ length_header _ _ _ in
+    (wrote_room c.put-a.ensures 0 (omega arith)).start
+
+pub slice_bounds-put-start-2 : goal.slice_bounds-put-start-2
+slice_bounds-put-start-2 c =
+    let t1 : c.put-a.result ≡ header_size = c.put-a.ensures.tells ∙ length_header _ _ _ in
+    let t2 : c.put.result ≡ length c.args.pmkids.now + rsne_size = c.put.ensures.tells ∙ length_rsne _ _ _ in
+    (wrote_room (wrote_more c.put-a.ensures c.put.ensures) 0 (omega arith)).start
+
+pub slice_bounds-put-count-2 : goal.slice_bounds-put-count-2
+slice_bounds-put-count-2 c =
+    let t1 : c.put-a.result ≡ header_size = c.put-a.ensures.tells ∙ length_header _ _ _ in
+    let t2 : c.put.result ≡ length c.args.pmkids.now + rsne_size = c.put.ensures.tells ∙ length_rsne _ _ _ in
+    (wrote_room (wrote_more c.put-a.ensures c.put.ensures) 0 (omega arith)).start
+
+pub slice_bounds-put-start-3 : goal.slice_bounds-put-start-3
+slice_bounds-put-start-3 c =
+    let t1 : c.put-a.result ≡ header_size = c.put-a.ensures.tells ∙ length_header _ _ _ in
+    let t2 : c.put.result ≡ length c.args.pmkids.now + rsne_size = c.put.ensures.tells ∙ length_rsne _ _ _ in
+    let t3 : c.put-2.result ≡ timeout_size = c.put-2.ensures.tells ∙ length_timeout _ in
+    (wrote_room (wrote_more (wrote_more c.put-a.ensures c.put.ensures) c.put-2.ensures) 0 (omega arith)).start
+
+pub slice_bounds-put-count-3 : goal.slice_bounds-put-count-3
+slice_bounds-put-count-3 c =
+    let t1 : c.put-a.result ≡ header_size = c.put-a.ensures.tells ∙ length_header _ _ _ in
+    let t2 : c.put.result ≡ length c.args.pmkids.now + rsne_size = c.put.ensures.tells ∙ length_rsne _ _ _ in
+    let t3 : c.put-2.result ≡ timeout_size = c.put-2.ensures.tells ∙ length_timeout _ in
+    (wrote_room (wrote_more (wrote_more c.put-a.ensures c.put.ensures) c.put-2.ensures) 0 (omega arith)).start
+
+pub slice_bounds-put-start-4 : goal.slice_bounds-put-start-4
+slice_bounds-put-start-4 c =
+    let t1 : c.put-a.result ≡ header_size = c.put-a.ensures.tells ∙ length_header _ _ _ in
+    let t2 : c.put.result ≡ length c.args.pmkids.now + rsne_size = c.put.ensures.tells ∙ length_rsne _ _ _ in
+    let t3 : c.put-2.result ≡ timeout_size = c.put-2.ensures.tells ∙ length_timeout _ in
+    let t4 : c.put-3.result ≡ length c.args.key.now + parameters_size = c.put-3.ensures.tells ∙ length_with_key AccessPoint _ _ _ in
+    (wrote_room (wrote_more (wrote_more (wrote_more c.put-a.ensures c.put.ensures) c.put-2.ensures) c.put-3.ensures) 0 (omega arith)).start
+
+pub slice_bounds-put-count-4 : goal.slice_bounds-put-count-4
+slice_bounds-put-count-4 c =
+    let t1 : c.put-a.result ≡ header_size = c.put-a.ensures.tells ∙ length_header _ _ _ in
+    let t2 : c.put.result ≡ length c.args.pmkids.now + rsne_size = c.put.ensures.tells ∙ length_rsne _ _ _ in
+    let t3 : c.put-2.result ≡ timeout_size = c.put-2.ensures.tells ∙ length_timeout _ in
+    let t4 : c.put-3.result ≡ length c.args.key.now + parameters_size = c.put-3.ensures.tells ∙ length_with_key AccessPoint _ _ _ in
+    (wrote_room (wrote_more (wrote_more (wrote_more c.put-a.ensures c.put.ensures) c.put-2.ensures) c.put-3.ensures) 0 (omega arith)).start
 
 pub put-requires : goal.put-requires
 put-requires c =
-    let p = c in
-    ((start p).requires.pmkids, (room_1 p).room)
-
-pub overflow_add-b : goal.overflow_add-b
-overflow_add-b c =
-    let b = c in
-    omega (arith, (start (header b)).requires, told_1 (header b), told_2 b)
-
-pub slice_bounds-put-count-2 : goal.slice_bounds-put-count-2
-slice_bounds-put-count-2 c = (room_2 c).start
+    let t1 : c.put-a.result ≡ header_size = c.put-a.ensures.tells ∙ length_header _ _ _ in
+    (c.requires.pmkids, (wrote_room c.put-a.ensures _ (omega arith)).room)
 
 pub put-requires-2 : goal.put-requires-2
-put-requires-2 c = (room_2 c).room
-
-pub overflow_add-c : goal.overflow_add-c
-overflow_add-c c =
-    let d = c in
-    let b = rsne d in
-    omega (arith, (start (header b)).requires, told_1 (header b), told_2 b, told_3 d)
-
-pub slice_bounds-put-count-3 : goal.slice_bounds-put-count-3
-slice_bounds-put-count-3 c = (room_3 c).start
+put-requires-2 c =
+    let t1 : c.put-a.result ≡ header_size = c.put-a.ensures.tells ∙ length_header _ _ _ in
+    let t2 : c.put.result ≡ length c.args.pmkids.now + rsne_size = c.put.ensures.tells ∙ length_rsne _ _ _ in
+    (wrote_room (wrote_more c.put-a.ensures c.put.ensures) _ (omega arith)).room
 
 pub put-requires-3 : goal.put-requires-3
 put-requires-3 c =
-    let p = c in
-    let n = length_with_key AccessPoint 0 (start (header (rsne p))).args.chosen.group (start (header (rsne p))).args.key.now in
-    record { short = omega (arith, (start (header (rsne p))).requires); room = omega (arith, room_3 p) }
-
-pub overflow_add-e : goal.overflow_add-e
-overflow_add-e c =
-    let p = c in
-    let d = timeout p in
-    let b = rsne d in
-    omega (arith, (start (header b)).requires, told_1 (header b), told_2 b, told_3 d, told_4 p)
-
-pub slice_bounds-put-count-4 : goal.slice_bounds-put-count-4
-slice_bounds-put-count-4 c = (room_4 c).start
+    let t1 : c.put-a.result ≡ header_size = c.put-a.ensures.tells ∙ length_header _ _ _ in
+    let t2 : c.put.result ≡ length c.args.pmkids.now + rsne_size = c.put.ensures.tells ∙ length_rsne _ _ _ in
+    let t3 : c.put-2.result ≡ timeout_size = c.put-2.ensures.tells ∙ length_timeout _ in
+    let n = length_with_key AccessPoint 0 c.args.chosen.group c.args.key.now in
+    let r = wrote_room (wrote_more (wrote_more c.put-a.ensures c.put.ensures) c.put-2.ensures) (length c.args.key.now + parameters_size) (omega arith) in
+    record { short = omega arith; room = omega (arith, r.room) }
 
 pub put-requires-4 : goal.put-requires-4
 put-requires-4 c =
-    let p = c in
-    ((start (header (rsne (timeout p)))).requires.mic, (room_4 p).room)
+    let t1 : c.put-a.result ≡ header_size = c.put-a.ensures.tells ∙ length_header _ _ _ in
+    let t2 : c.put.result ≡ length c.args.pmkids.now + rsne_size = c.put.ensures.tells ∙ length_rsne _ _ _ in
+    let t3 : c.put-2.result ≡ timeout_size = c.put-2.ensures.tells ∙ length_timeout _ in
+    let t4 : c.put-3.result ≡ length c.args.key.now + parameters_size = c.put-3.ensures.tells ∙ length_with_key AccessPoint _ _ _ in
+    (c.requires.mic, (wrote_room (wrote_more (wrote_more (wrote_more c.put-a.ensures c.put.ensures) c.put-2.ensures) c.put-3.ensures) _ (omega arith)).room)
+
+pub overflow_add-b : goal.overflow_add-b
+overflow_add-b c =
+    let t1 : c.put-a.result ≡ header_size = c.put-a.ensures.tells ∙ length_header _ _ _ in
+    let t2 : c.put.result ≡ length c.args.pmkids.now + rsne_size = c.put.ensures.tells ∙ length_rsne _ _ _ in
+    omega arith
+
+pub overflow_add-c : goal.overflow_add-c
+overflow_add-c c =
+    let t1 : c.put-a.result ≡ header_size = c.put-a.ensures.tells ∙ length_header _ _ _ in
+    let t2 : c.put.result ≡ length c.args.pmkids.now + rsne_size = c.put.ensures.tells ∙ length_rsne _ _ _ in
+    let t3 : c.put-2.result ≡ timeout_size = c.put-2.ensures.tells ∙ length_timeout _ in
+    omega arith
+
+pub overflow_add-e : goal.overflow_add-e
+overflow_add-e c =
+    let t1 : c.put-a.result ≡ header_size = c.put-a.ensures.tells ∙ length_header _ _ _ in
+    let t2 : c.put.result ≡ length c.args.pmkids.now + rsne_size = c.put.ensures.tells ∙ length_rsne _ _ _ in
+    let t3 : c.put-2.result ≡ timeout_size = c.put-2.ensures.tells ∙ length_timeout _ in
+    let t4 : c.put-3.result ≡ length c.args.key.now + parameters_size = c.put-3.ensures.tells ∙ length_with_key AccessPoint _ _ _ in
+    omega arith
 
 pub overflow_add-result : goal.overflow_add-result
 overflow_add-result c =
-    let m = c in
-    let p = parameters m in
-    let d = timeout p in
-    let b = rsne d in
-    omega (arith, (start (header b)).requires, told_1 (header b), told_2 b, told_3 d, told_4 p, told_5 m)
+    let t1 : c.put-a.result ≡ header_size = c.put-a.ensures.tells ∙ length_header _ _ _ in
+    let t2 : c.put.result ≡ length c.args.pmkids.now + rsne_size = c.put.ensures.tells ∙ length_rsne _ _ _ in
+    let t3 : c.put-2.result ≡ timeout_size = c.put-2.ensures.tells ∙ length_timeout _ in
+    let t4 : c.put-3.result ≡ length c.args.key.now + parameters_size = c.put-3.ensures.tells ∙ length_with_key AccessPoint _ _ _ in
+    let t5 : c.put-4.result ≡ c.args.chosen.mic + mic_size = c.put-4.ensures.tells ∙ length_mic _ in
+    omega arith
 
 pub returns : goal.returns
 unfolding second_octets
-returns c =
-    let m = c in
-    let p = parameters m in
-    let d = timeout p in
-    let b = rsne d in
-    wrote_more (wrote_more (wrote_more (wrote_more (header b).put.ensures b.put.ensures) d.put-2.ensures) p.put-3.ensures) m.put-4.ensures
+returns c = wrote_more (wrote_more (wrote_more (wrote_more c.put-a.ensures c.put.ensures) c.put-2.ensures) c.put-3.ensures) c.put-4.ensures

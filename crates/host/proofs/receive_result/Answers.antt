@@ -1,0 +1,5 @@
+use borrow.Author.Rules.{rules}
+use Rattle.host.proofs.receive_result.Goals as goal
+
+pub returns : goal.returns
+returns c = rw (c.answer_number.ensures, c.status_number.ensures)

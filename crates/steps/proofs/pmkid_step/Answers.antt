@@ -1,0 +1,42 @@
+use mathlib.Core.Path.{◌≡◌, refl, sym, ap, ◌∙◌}
+use mathlib.Core.Bool.{Bool, true, false}
+use mathlib.Core.List.{List}
+use mathlib.Core.Option.{none, some}
+use Prim.Native.Nat.{ℕ}
+use lib.ListN.{replicate}
+use Rattle.octets.specs.Choice.{if◌then◌else◌}
+use Rattle.cache.specs.File.{records_of}
+use Rattle.rules.specs.declared.Refusal.{Refusal}
+use Rattle.rules.specs.OnePeer.{refuse, pass}
+use Rattle.steps.specs.Told.{pmkid_step_of}
+use Rattle.rules.proofs.Pmkids.{in_list, that_part}
+use borrow.Author.Rules.{rules}
+use Rattle.steps.proofs.pmkid_step.Goals as goal
+
+-- with AKM 21: none listed, or refused
+by_none : (none_listed : Bool) → record { passed = none_listed; cached = false; pmkid = replicate 16 0 } ≡ pmkid_step_of (if none_listed then pass none else refuse Refusal.Pmkid)
+by_none true = refl
+by_none false = refl
+
+pub returns-in_default : goal.returns-in_default
+returns-in_default c =
+    let p = c in
+    let q = p in
+    rw (q.if-akm.true, sym p.choose-choice.ensures ∙ c.in_default.is)
+
+pub pmkid_at-chosen-requires : goal.pmkid_at-chosen-requires
+pmkid_at-chosen-requires c =
+    let p = c in
+    let q = p in
+    in_list (records_of q.args.file.now) q.args.pmkids.now q.args.akm.kind q.args.reading (sym p.choose-choice.ensures ∙ c.in-Chosen.is)
+
+pub returns-then-akm : goal.returns-then-akm
+returns-then-akm c =
+    let p = c in
+    let q = p in
+    let r = q in
+    let s = r in
+    rw (r.if-akm.true, sym q.choose-choice.ensures ∙ p.in-Chosen.is) (ap (λ (l : List ℕ). pmkid_step_of (pass (some l))) (c.pmkid_at-chosen.ensures ∙ sym (that_part (records_of s.args.file.now) s.args.pmkids.now s.args.akm.kind s.args.reading (sym q.choose-choice.ensures ∙ p.in-Chosen.is))))
+
+pub returns : goal.returns
+returns c = rw c.if-akm.false (by_none _)

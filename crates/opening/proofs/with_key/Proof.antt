@@ -2,7 +2,7 @@ use mathlib.Core.Path.{◌∙◌}
 use borrow.Author.Tests.{not-true, not-false}
 use Rattle.frames.specs.Contents.{content}
 use Rattle.opening.specs.Decided.{with_key}
-use Rattle.opening.proofs.Steps.{pmkid_refused, pmkid_chosen}
+use Rattle.opening.proofs.Steps.{pmkid_refused, choice_of_pmkid}
 use borrow.Author.Rules.{rules}
 use Rattle.opening.proofs.with_key.Statement.{statement}
 use Rattle.opening.proofs.with_key.Tie as tie
@@ -35,7 +35,7 @@ returns_2 : tie.Need-returns-2
 unfolding with_key
 returns_2 c =
     let a = c.before.before.before.before.before.before.before.before.before.before.before.args in
-    c.refused2.ensures ∙ rw ((pmkid_chosen a.akm a.file.now a.brought.reading (content a.body.now a.facts.rsne.pmkids) c.before.before.before.before.pmkid_step.ensures (not-false _ c.before.before.if1.false)).here, c.before.if2.true)
+    c.refused2.ensures ∙ rw ((choice_of_pmkid a.akm a.file.now a.brought.reading (content a.body.now a.facts.rsne.pmkids) c.before.before.before.before.pmkid_step.ensures (not-false _ c.before.before.if1.false)).here, c.before.if2.true)
 
 lifetime_of_requires : tie.Need-lifetime-of-requires
 lifetime_of_requires c κs = search rules
@@ -44,7 +44,7 @@ returns_3 : tie.Need-returns-3
 unfolding with_key
 returns_3 c =
     let a = c.before.before.before.before.before.before.before.before.before.before.before.before.before.args in
-    let v = pmkid_chosen a.akm a.file.now a.brought.reading (content a.body.now a.facts.rsne.pmkids) c.before.before.before.before.before.before.pmkid_step.ensures (not-false _ c.before.before.before.before.if1.false) in
+    let v = choice_of_pmkid a.akm a.file.now a.brought.reading (content a.body.now a.facts.rsne.pmkids) c.before.before.before.before.before.before.pmkid_step.ensures (not-false _ c.before.before.before.before.if1.false) in
     rw (v.here, c.before.before.before.if2.false, c.lifetime_of.ensures, v.cached, v.octets)
 
 pub with_key_spec : {M : Type 1} → statement M

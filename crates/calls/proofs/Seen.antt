@@ -1,22 +1,18 @@
 -- What is seen of a peer, once the search's answer is taken apart.
 use mathlib.Core.Path.{◌≡◌, refl, ap}
-use mathlib.Core.Logic.{◌⊎◌, ⊎_elim}
 use mathlib.Core.Option.{none, some}
 use Prim.Native.Nat.{ℕ}
-use native.Mathlib.Omega.{arith}
-use denote.Enum.Declared.{tag_of}
 use Rattle.peers.specs.declared.Found.{Found}
 use Rattle.peers.specs.declared.Found.TheVariants.{At, Free, Full}
 use Rattle.peers.specs.declared.Peer.{Peer}
-use Rattle.peers.specs.contracts.Found as Found'
 use Rattle.calls.specs.Seen.{seen}
 
 -- where the code goes on without a place
 abbrev pub Nowhere : Found → Type 0
-Nowhere found = (tag_of Found'.the_type found ≡ 1) ⊎ (tag_of Found'.the_type found ≡ 2)
+Nowhere found = (i : ℕ) → found ≡ At i → ⊥
 
 pub nowhere : (P : Found → Type 0) → P Free → P Full → (found : Found) → Nowhere found → P found
-nowhere P x y (At i) h = absurd (⊎_elim (λ e. omega arith) (λ e. omega arith) h)
+nowhere P x y (At i) h = absurd (h i refl)
 nowhere P x y Free h = x
 nowhere P x y Full h = y
 

@@ -1,0 +1,15 @@
+use native.Mathlib.Omega.{arith}
+use Rattle.chip.proofs.Laws.{key_part_lies}
+use Rattle.unit.proofs.Keys.{key_at}
+use borrow.Author.Rules.{rules}
+use Rattle.unit.proofs.galebeacon_show_key.Goals as goal
+
+pub overflow_sub-result : goal.overflow_sub-result
+overflow_sub-result c =
+    let p = c in
+    rw p.show_key-part.ensures (omega (arith, key_part_lies p.args.body.now))
+
+pub returns : goal.returns
+returns c =
+    let p = c in
+    rw p.show_key-part.ensures (key_at p.args.body.now)

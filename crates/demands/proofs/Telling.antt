@@ -20,7 +20,7 @@ use Rattle.octets.specs.Search.{Each}
 use Rattle.demands.specs.Served.{From, last_from}
 use Rattle.demands.specs.InstalledKey.{Makes, waiting_since, Spares, is_removal, Holds}
 use Rattle.demands.proofs.Outcomes.{Kind, keeps, ends, begins, installs, kind_of}
-use Rattle.demands.proofs.Latest.{date_after, clock_fits, leaves_dated, makes_dated}
+use Rattle.demands.proofs.Latest.{date_after, clock_fits_within, leaves_dated, makes_dated}
 use Rattle.demands.proofs.Leaving.{Alive, alive_is, FirstMade, first_made}
 use Rattle.demands.proofs.Order.{each_snoc, next_append}
 
@@ -112,7 +112,7 @@ module _ (a : List ℕ) where
           go none q = either_way (λ (left : Left). Story (done ++ (remove a m ∷ [])) m (peer_after none left)) (eqb (remove_of s.latest m a none) 16) (λ _. tt) (λ _. tt)
           go (some p) q =
               let g = told_of_no_group p p.phase (subst (Story done n) (alive_is s.peer m q).is w) in
-              rw (clock_fits s.latest m (omega arith) k, g) tt
+              rw (clock_fits_within s.latest m (omega arith) k, g) tt
 
       module _ (frame : Call) (h : n.0 ≤ frame.brought.reading.0) (k : frame.brought.reading.0 ≤ clock_limit) (i : frame.brought.address ≡ a) where
         abbrev m : Tu

@@ -17,10 +17,9 @@ use Rattle.elements.specs.declared.Part.{Part}
 use Rattle.parameters.specs.declared.Side.{Side}
 use Rattle.parameters.specs.declared.Side.TheVariants.{Station, AccessPoint}
 use Rattle.parameters.specs.declared.Comeback.{Comeback}
-use Rattle.parameters.specs.declared.Parameters.{Parameters}
 use Rattle.parameters.specs.declared.Reading.{Reading}
 use Rattle.parameters.specs.declared.Reading.TheVariants.{Is, Ill}
-use Rattle.parameters.specs.Parameters.{bit0, bit1, offer_from, after_width, comeback_of, comeback_from, parameters_of, WithB0, counted, comeback_octets, offer_octets, bit, control, content_octets}
+use Rattle.parameters.specs.Parameters.{bit0, bit1, offer_from, after_width, comeback_of, comeback_from, parameters_of, WithB0, counted, comeback_octets, offer_octets, bit, content_octets}
 use Rattle.parameters.specs.ParametersInverse.{offer_placed, placed, comeback_in, offer_in, said_in, AfterFits, GroupFits, ReadsBack, WhatIsWrittenReadsBack, plain, WhatIsReadWasWritten}
 use Rattle.parameters.proofs.Laws.{bit_most}
 

@@ -29,7 +29,7 @@ use Rattle.peers.specs.declared.Peer.{Peer}
 use Rattle.peers.specs.declared.Phase.{Phase}
 use Rattle.peers.specs.declared.Phase.TheVariants.{Waiting, Installed}
 use Rattle.rules.specs.declared.Settings.{Settings}
-use Rattle.rules.specs.Alone.{remove, look_up, answered, removed, found, alone_gets}
+use Rattle.rules.specs.Alone.{remove, look_up, removed, found, alone_gets}
 use Rattle.rules.specs.OnePeer.{Call, Outcome, answer_number, status_beside, peer_after, receive_of, remove_of, look_up_of}
 
 abbrev tu : ℕ → Tu

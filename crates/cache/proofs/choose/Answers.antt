@@ -1,8 +1,5 @@
 use mathlib.Core.Path.{sym, ◌∙◌}
-use Prim.Native.Nat.{◌-◌}
-use borrow.Author.Rules.{rules}
-use Rattle.cache.specs.File.{records_of}
-use Rattle.cache.proofs.Search.{Tried, tried_none, tried_stops, tried_more, tried_all}
+use Rattle.cache.proofs.Search.{tried_none, tried_stops, tried_more, tried_all}
 use Rattle.cache.proofs.choose.Goals as goal
 
 pub loop-k-init : goal.loop-k-init

@@ -1,10 +1,9 @@
 use mathlib.Core.Path.{sym, ap, ◌∙◌}
-use Prim.Native.Nat.{ℕ, ◌-◌}
+use Prim.Native.Nat.{ℕ}
 use native.Mathlib.Omega.{arith}
-use lib.ListN.{length}
 use Rattle.cache.specs.declared.Match.{Match}
-use Rattle.cache.specs.Search.{matches, told, found_of}
-use Rattle.cache.proofs.Search.{Searched, searched_none, searched_all, searched_stands, searched_goes, searched_stops, searched_more}
+use Rattle.cache.specs.Search.{told, found_of}
+use Rattle.cache.proofs.Search.{searched_none, searched_all, searched_stands, searched_goes, searched_stops, searched_more}
 use Rattle.cache.proofs.find.Goals as goal
 
 pub loop-at-init : goal.loop-at-init

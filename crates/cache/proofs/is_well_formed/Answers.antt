@@ -1,9 +1,6 @@
 use mathlib.Core.Path.{sym, ◌∙◌}
-use Prim.Native.Nat.{◌-◌}
 use native.Mathlib.Omega.{arith}
-use borrow.Author.Rules.{rules}
-use lib.ListN.{length}
-use Rattle.cache.proofs.Check.{Checked, checked_none, checked_goes, checked_more, checked_all, checked_ill}
+use Rattle.cache.proofs.Check.{checked_none, checked_goes, checked_more, checked_all, checked_ill}
 use Rattle.cache.proofs.is_well_formed.Goals as goal
 
 pub loop-record-init : goal.loop-record-init

@@ -1,6 +1,4 @@
 use mathlib.Core.Path.{sym, ◌∙◌}
-use borrow.Author.Tests.{not-true, not-false}
-use borrow.Author.Rules.{rules}
 use Rattle.cache.proofs.Search.{other_akm, other_pmkid, by_end}
 use Rattle.cache.proofs.matches.Goals as goal
 

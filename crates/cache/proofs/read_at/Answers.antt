@@ -1,6 +1,5 @@
 use mathlib.Core.Path.{sym, ap, ◌∙◌}
 use native.Mathlib.Omega.{arith}
-use borrow.Author.Rules.{rules}
 use Rattle.cache.specs.File.{stands}
 use Rattle.cache.proofs.Records.{read_end, read_ill, read_record}
 use Rattle.cache.proofs.read_at.Goals as goal

@@ -1,6 +1,5 @@
 use mathlib.Core.Path.{sym, ap, ◌∙◌}
 use mathlib.Core.Bool.{not}
-use borrow.Author.Rules.{rules}
 use Rattle.rules.specs.OnePeer.{waits, is_installed}
 use Rattle.calls.proofs.Seen.{seen_at, seen_none}
 use Rattle.calls.proofs.is_installed.Goals as goal

@@ -1,7 +1,6 @@
 use mathlib.Core.Path.{sym, ap}
 use Rattle.rules.specs.OnePeer.{waits}
 use Rattle.calls.proofs.Seen.{seen_none}
-use borrow.Author.Rules.{rules}
 use Rattle.calls.proofs.is_waiting.Goals as goal
 
 pub returns-in_default : goal.returns-in_default

@@ -1,7 +1,6 @@
 use mathlib.Core.Path.{sym, ◌∙◌}
 use borrow.Author.Tests.{eq-eqb, ne_eqb}
 use Rattle.rules.proofs.Verdicts.{stays, in_any}
-use borrow.Author.Rules.{rules}
 use Rattle.calls.proofs.on_body.Goals as goal
 
 pub returns-in_default : goal.returns-in_default

@@ -1,6 +1,5 @@
 use mathlib.Core.Path.{sym, ◌∙◌}
 use Rattle.rules.proofs.Verdicts.{stays}
-use borrow.Author.Rules.{rules}
 use Rattle.calls.proofs.on_first.Goals as goal
 
 pub returns-then-is_installed : goal.returns-then-is_installed

@@ -1,7 +1,6 @@
 use mathlib.Core.Path.{sym, ◌∙◌}
 use mathlib.Core.List.{[]}
 use Rattle.rules.proofs.Verdicts.{stays, goes}
-use borrow.Author.Rules.{rules}
 use Rattle.calls.proofs.on_other.Goals as goal
 
 pub returns-then-is_waiting : goal.returns-then-is_waiting

@@ -1,7 +1,6 @@
 use mathlib.Core.List.{[]}
 use Rattle.calls.proofs.Seen.{seen_at, seen_none}
 use Rattle.rules.proofs.Verdicts.{stays}
-use borrow.Author.Rules.{rules}
 use Rattle.calls.proofs.on_third.Goals as goal
 
 pub returns-in_default : goal.returns-in_default

@@ -1,7 +1,5 @@
 use mathlib.Core.Path.{sym, ◌∙◌}
-use borrow.Author.Tests.{not-true, not-false}
 use Rattle.checks.specs.Checked.{asked_of}
-use borrow.Author.Rules.{rules}
 use Rattle.checks.proofs.check_address.Goals as goal
 
 pub returns-then-not-clock_fits : goal.returns-then-not-clock_fits

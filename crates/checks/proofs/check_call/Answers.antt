@@ -1,7 +1,6 @@
 use mathlib.Core.Path.{sym, ◌∙◌}
-use borrow.Author.Tests.{lt-ltb, le-ltb, not-true, not-false}
+use borrow.Author.Tests.{lt-ltb, le-ltb}
 use Rattle.rules.specs.OnePeer.{checks}
-use borrow.Author.Rules.{rules}
 use Rattle.checks.proofs.check_call.Goals as goal
 
 pub returns-then-not-clock_fits : goal.returns-then-not-clock_fits

@@ -1,5 +1,4 @@
 use borrow.Author.Tests.{le-leb, lt-leb}
-use borrow.Author.Rules.{rules}
 use Rattle.checks.proofs.clock_fits.Goals as goal
 
 pub returns-then-latest-reading : goal.returns-then-latest-reading

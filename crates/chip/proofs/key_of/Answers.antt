@@ -1,5 +1,4 @@
 use mathlib.Core.Path.{sym, ◌∙◌}
-use borrow.Author.Rules.{rules}
 use Rattle.chip.proofs.key_of.Goals as goal
 
 pub returns-in_default : goal.returns-in_default

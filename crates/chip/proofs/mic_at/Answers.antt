@@ -1,7 +1,6 @@
 use mathlib.Core.Path.{refl, sym, ◌∙◌}
 use Rattle.frames.proofs.Otherwise.{not_one}
 use Rattle.chip.specs.Chip.{mic_at}
-use borrow.Author.Rules.{rules}
 use Rattle.chip.proofs.mic_at.Goals as goal
 
 pub returns-in_default : goal.returns-in_default

@@ -1,7 +1,6 @@
 use mathlib.Core.Path.{sym, ◌∙◌}
 use borrow.Author.Tests.{eq-eqb, ne_eqb}
 use Rattle.chip.specs.Chip.{mic_in}
-use borrow.Author.Rules.{rules}
 use Rattle.chip.proofs.mic_in.Goals as goal
 
 pub returns-in_default : goal.returns-in_default

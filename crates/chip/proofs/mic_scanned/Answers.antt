@@ -2,7 +2,6 @@ use mathlib.Core.Path.{sym, ◌∙◌}
 use lib.ListN.{length}
 use Rattle.scan.proofs.Scanning.{within}
 use Rattle.frames.proofs.Otherwise.{ordered}
-use borrow.Author.Rules.{rules}
 use Rattle.chip.proofs.mic_scanned.Goals as goal
 
 pub returns-in_default : goal.returns-in_default

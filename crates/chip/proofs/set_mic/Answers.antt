@@ -4,7 +4,6 @@ use lib.ListN.{length-take, length-drop}
 use borrow.Author.Tests.{eq-eqb, ne_eqb}
 use Rattle.chip.specs.Chip.{set_number, set_octets}
 use Rattle.chip.proofs.Laws.{mic_lies, mic_set}
-use borrow.Author.Rules.{rules}
 use Rattle.chip.proofs.set_mic.Goals as goal
 
 pub returns-in_default : goal.returns-in_default

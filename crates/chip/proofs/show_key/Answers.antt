@@ -3,7 +3,6 @@ use borrow.Author.Tests.{eq-eqb, ne_eqb}
 use Rattle.frames.specs.First.{is_first}
 use Rattle.frames.proofs.first.Laws.{first_lies}
 use Rattle.chip.specs.Chip.{key_part}
-use borrow.Author.Rules.{rules}
 use Rattle.chip.proofs.show_key.Goals as goal
 
 pub returns-in_default : goal.returns-in_default

@@ -5,7 +5,6 @@ use borrow.Author.Tests.{lt-ltb, le-ltb}
 use Rattle.chip.specs.Chip.{zero_number, zeroed}
 use Rattle.octets.proofs.Parts.{wrote_length}
 use Rattle.chip.proofs.Laws.{mic_lies, mic_zeroed}
-use borrow.Author.Rules.{rules}
 use Rattle.chip.proofs.zero_mic.Goals as goal
 
 pub returns-in_default : goal.returns-in_default

@@ -7,7 +7,6 @@ use Rattle.frames.proofs.third.Laws.{third_lies}
 use Rattle.rules.specs.declared.Leaves.{Leaves}
 use Rattle.rules.proofs.Verdicts.{gets_same, stays, goes}
 use Rattle.closing.proofs.Thirds.{third_installed, third_status, third_unlisted, third_ill, third_unlike, third_alike}
-use borrow.Author.Rules.{rules}
 use Rattle.closing.proofs.answer.Goals as goal
 
 pub returns-in_default : goal.returns-in_default

@@ -1,7 +1,6 @@
 use mathlib.Core.Path.{ap}
 use native.Mathlib.Omega.{arith}
 use Rattle.units.specs.declared.Tu.{Tu}
-use borrow.Author.Rules.{rules}
 use Rattle.closing.proofs.installed.Goals as goal
 
 pub overflow_add-result : goal.overflow_add-result

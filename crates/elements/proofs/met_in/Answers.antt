@@ -1,7 +1,6 @@
 use borrow.Author.Tests.{le-ltb, lt-ltb, le-leb, lt-leb, eq-eqb, ne_eqb}
 use native.Mathlib.Omega.{arith}
 use Prim.Native.Nat.{◌+◌}
-use borrow.Author.Rules.{rules}
 use Rattle.elements.proofs.met_in.Goals as goal
 
 pub returns-then-s-at : goal.returns-then-s-at

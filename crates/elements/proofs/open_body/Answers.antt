@@ -1,6 +1,5 @@
 use borrow.Author.Tests.{le-ltb, lt-ltb}
 use Rattle.elements.specs.Body.{body_of}
-use borrow.Author.Rules.{rules}
 use Rattle.elements.proofs.open_body.Goals as goal
 
 pub returns-then-s-lt-HEADER : goal.returns-then-s-lt-HEADER

@@ -1,7 +1,6 @@
 use mathlib.Core.Path.{sym, ap, ◌∙◌}
 use Rattle.host.specs.Host.{status_number}
 use Rattle.host.proofs.Statuses.{unrefused}
-use borrow.Author.Rules.{rules}
 use Rattle.host.proofs.status_number.Goals as goal
 
 pub returns-in-Refused : goal.returns-in-Refused

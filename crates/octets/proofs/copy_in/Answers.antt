@@ -1,11 +1,11 @@
-use Prim.Native.Nat.{ℕ, ◌≤◌, ◌-◌}
+use Prim.Native.Nat.{ℕ}
 use mathlib.Core.Path.{ap, ◌∙◌}
 use native.Mathlib.Numerals.{add-one}
 use native.Mathlib.Omega.{arith}
 use lib.Seq.{take-suc, take-length}
-use Rattle.octets.proofs.Parts.{Writing, writing_none, writing_more, writing_done}
+use Rattle.octets.proofs.Parts.{writing_none, writing_more, writing_done}
 use borrow.Author.Rules.{rules}
-use lib.ListN.{length, take, get_or}
+use lib.ListN.{take, get_or}
 use Rattle.octets.proofs.copy_in.Goals as goal
 
 pub loop-i-init : goal.loop-i-init

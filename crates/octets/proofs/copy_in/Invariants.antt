@@ -1,11 +1,6 @@
-use Prim.Native.Nat.{ℕ, ◌≤◌, ◌-◌}
-use mathlib.Core.Path.{ap, ◌∙◌}
-use native.Mathlib.Numerals.{add-one}
-use native.Mathlib.Omega.{arith}
-use lib.Seq.{take-suc, take-length}
-use Rattle.octets.proofs.Parts.{Writing, writing_none, writing_more, writing_done}
-use borrow.Author.Rules.{rules}
-use lib.ListN.{length, take, get_or}
+use Prim.Native.Nat.{◌≤◌, ◌-◌}
+use Rattle.octets.proofs.Parts.{Writing}
+use lib.ListN.{length, take}
 use Rattle.octets.proofs.copy_in.Given as goal
 
 abbrev pub invariant-loop-i : goal.invariant-loop-i

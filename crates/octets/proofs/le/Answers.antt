@@ -1,7 +1,6 @@
-use Rattle.octets.proofs.Numbers.{Reading, reading_none, reading_room, reading_more, reading_done}
+use Rattle.octets.proofs.Numbers.{reading_none, reading_room, reading_more, reading_done}
 use native.Mathlib.Omega.{arith}
 use Prim.Native.Nat.{◌+◌, ◌-◌}
-use borrow.Author.Rules.{rules}
 use Rattle.octets.proofs.le.Goals as goal
 
 pub loop-left-init : goal.loop-left-init

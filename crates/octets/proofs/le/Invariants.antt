@@ -1,7 +1,4 @@
-use Rattle.octets.proofs.Numbers.{Reading, reading_none, reading_room, reading_more, reading_done}
-use native.Mathlib.Omega.{arith}
-use Prim.Native.Nat.{◌+◌, ◌-◌}
-use borrow.Author.Rules.{rules}
+use Rattle.octets.proofs.Numbers.{Reading}
 use Rattle.octets.proofs.le.Given as goal
 
 abbrev pub invariant-loop-left : goal.invariant-loop-left

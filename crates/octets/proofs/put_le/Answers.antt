@@ -1,8 +1,8 @@
-use mathlib.Core.Path.{◌≡◌, refl, sym, ap, ◌∙◌}
+use mathlib.Core.Path.{refl, sym, ap, ◌∙◌}
 use native.Mathlib.Omega.{arith}
 use Rattle.octets.proofs.Numbers.{above, above_more, octets_more}
-use Rattle.octets.proofs.Parts.{Writing, writing_none, writing_more, writing_done}
-use Prim.Native.Nat.{ℕ, ◌≤◌, ◌-◌, ◌/◌, ◌%◌}
+use Rattle.octets.proofs.Parts.{writing_none, writing_more, writing_done}
+use Prim.Native.Nat.{ℕ, ◌/◌, ◌%◌}
 use mathlib.Core.List.{[], ◌∷◌, ◌++◌}
 use borrow.Author.Rules.{rules}
 use Rattle.octets.specs.Numbers.{octets}

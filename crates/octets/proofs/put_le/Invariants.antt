@@ -1,10 +1,7 @@
-use mathlib.Core.Path.{◌≡◌, refl, sym, ap, ◌∙◌}
-use native.Mathlib.Omega.{arith}
-use Rattle.octets.proofs.Numbers.{above, above_more, octets_more}
-use Rattle.octets.proofs.Parts.{Writing, writing_none, writing_more, writing_done}
-use Prim.Native.Nat.{ℕ, ◌≤◌, ◌-◌, ◌/◌, ◌%◌}
-use mathlib.Core.List.{[], ◌∷◌, ◌++◌}
-use borrow.Author.Rules.{rules}
+use mathlib.Core.Path.{◌≡◌}
+use Rattle.octets.proofs.Numbers.{above}
+use Rattle.octets.proofs.Parts.{Writing}
+use Prim.Native.Nat.{◌≤◌, ◌-◌}
 use Rattle.octets.specs.Numbers.{octets}
 use Rattle.octets.proofs.put_le.Given as goal
 

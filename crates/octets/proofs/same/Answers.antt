@@ -1,8 +1,8 @@
-use Prim.Native.Nat.{ℕ, ◌-◌, ◌≤◌}
-use mathlib.Core.Path.{◌≡◌, ap}
+use Prim.Native.Nat.{ℕ, ◌-◌}
+use mathlib.Core.Path.{ap}
 use mathlib.Core.List.{List}
 use borrow.Author.Rules.{rules}
-use lib.ListN.{length, get_or, drop}
+use lib.ListN.{length, get_or}
 use Rattle.octets.proofs.Equality.{unlike, same_begins, same_goes, same_ends}
 use Rattle.octets.proofs.same.Goals as goal
 

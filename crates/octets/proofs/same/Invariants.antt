@@ -1,9 +1,6 @@
-use Prim.Native.Nat.{ℕ, ◌-◌, ◌≤◌}
-use mathlib.Core.Path.{◌≡◌, ap}
-use mathlib.Core.List.{List}
-use borrow.Author.Rules.{rules}
-use lib.ListN.{length, get_or, drop}
-use Rattle.octets.proofs.Equality.{unlike, same_begins, same_goes, same_ends}
+use Prim.Native.Nat.{◌≤◌}
+use mathlib.Core.Path.{◌≡◌}
+use lib.ListN.{length, drop}
 use Rattle.octets.proofs.same.Given as goal
 
 abbrev pub invariant-loop-i : goal.invariant-loop-i

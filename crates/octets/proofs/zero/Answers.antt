@@ -1,8 +1,7 @@
 use mathlib.Core.Path.{sym}
 use native.Mathlib.Omega.{arith}
 use lib.ListN.{replicate, replicate-append-replicate}
-use Rattle.octets.proofs.Parts.{Writing, writing_none, writing_more, writing_done}
-use Prim.Native.Nat.{◌≤◌, ◌-◌}
+use Rattle.octets.proofs.Parts.{writing_none, writing_more, writing_done}
 use borrow.Author.Rules.{rules}
 use Rattle.octets.proofs.zero.Goals as goal
 

@@ -1,9 +1,6 @@
-use mathlib.Core.Path.{sym}
-use native.Mathlib.Omega.{arith}
-use lib.ListN.{replicate, replicate-append-replicate}
-use Rattle.octets.proofs.Parts.{Writing, writing_none, writing_more, writing_done}
+use lib.ListN.{replicate}
+use Rattle.octets.proofs.Parts.{Writing}
 use Prim.Native.Nat.{◌≤◌, ◌-◌}
-use borrow.Author.Rules.{rules}
 use Rattle.octets.proofs.zero.Given as goal
 
 abbrev pub invariant-loop-i : goal.invariant-loop-i

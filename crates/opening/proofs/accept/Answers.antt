@@ -1,10 +1,8 @@
 use mathlib.Core.Path.{sym, ◌∙◌}
 use Rattle.writers.proofs.second.Laws.{longest_fits}
-use borrow.Author.Tests.{not-true, not-false}
 use Rattle.opening.specs.Decided.{passed_of}
 use Rattle.rules.proofs.Verdicts.{stays}
 use Rattle.opening.proofs.Replies.{accepted_so}
-use borrow.Author.Rules.{rules}
 use Rattle.opening.proofs.accept.Goals as goal
 
 pub returns-then-not-is_key_of : goal.returns-then-not-is_key_of

@@ -4,7 +4,6 @@ use Rattle.frames.proofs.first.Laws.{first_lies}
 use Rattle.rules.specs.OnePeer.{steps}
 use Rattle.steps.specs.Told.{suites_told}
 use Rattle.opening.specs.Decided.{with_key, with_suites}
-use borrow.Author.Rules.{rules}
 use Rattle.opening.proofs.decide.Goals as goal
 
 pub returns-in_default : goal.returns-in_default

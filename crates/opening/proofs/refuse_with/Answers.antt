@@ -1,5 +1,4 @@
 use Rattle.opening.proofs.Replies.{refused_so}
-use borrow.Author.Rules.{rules}
 use Rattle.opening.proofs.refuse_with.Goals as goal
 
 pub returns : goal.returns

@@ -3,7 +3,6 @@ use borrow.Author.Tests.{not-true, not-false}
 use Rattle.frames.specs.Contents.{content}
 use Rattle.opening.specs.Decided.{with_key}
 use Rattle.opening.proofs.Steps.{pmkid_refused, choice_of_pmkid}
-use borrow.Author.Rules.{rules}
 use Rattle.opening.proofs.with_key.Goals as goal
 
 pub returns-then-not-step : goal.returns-then-not-step

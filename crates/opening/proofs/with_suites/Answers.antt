@@ -1,7 +1,6 @@
 use mathlib.Core.Path.{sym, ap, ◌∙◌}
 use Rattle.steps.specs.Told.{key_told}
 use Rattle.opening.specs.Decided.{with_suites}
-use borrow.Author.Rules.{rules}
 use Rattle.opening.proofs.with_suites.Goals as goal
 
 pub returns-in-Refused : goal.returns-in-Refused

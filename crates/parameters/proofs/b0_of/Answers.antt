@@ -2,7 +2,6 @@ use mathlib.Core.List.{[]}
 use mathlib.Core.Path.{sym, ap}
 use Rattle.parameters.specs.declared.ComebackToWrite.{ComebackToWrite}
 use Rattle.parameters.specs.Parameters.{bit, comeback_by}
-use borrow.Author.Rules.{rules}
 use Rattle.parameters.proofs.b0_of.Goals as goal
 
 pub returns-in-Absent : goal.returns-in-Absent

@@ -1,4 +1,3 @@
-use borrow.Author.Rules.{rules}
 use Rattle.parameters.proofs.comeback_of.Goals as goal
 
 pub le2-requires : goal.le2-requires

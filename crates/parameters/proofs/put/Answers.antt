@@ -1,5 +1,5 @@
 use mathlib.Core.List.{List, []}
-use mathlib.Core.Path.{◌≡◌, ap₂, ◌∙◌}
+use mathlib.Core.Path.{ap₂, ◌∙◌}
 use Prim.Native.Nat.{ℕ, ◌+◌, ◌*◌, ◌-◌, ◌≤◌}
 use native.Mathlib.Omega.{arith}
 use lib.ListN.{length, take, drop}
@@ -10,7 +10,6 @@ use Rattle.octets.proofs.Parts.{Room, wrote_front, wrote_room, wrote_more}
 use Rattle.parameters.specs.declared.Side.{Side}
 use Rattle.parameters.specs.Parameters.{Said, Fits, parameters_octets, comeback_octets, offer_octets, side_of, comeback_by, offer_by, said_by}
 use Rattle.parameters.proofs.Laws.{bit_most, control_by, length_content, length_parameters, wrote_parameters}
-use borrow.Author.Rules.{rules}
 use Rattle.parameters.proofs.put.Goals as goal
 
 -- The octets that come with B0 and with B1, and the five in front of them, fit the element and the buffer.

@@ -7,7 +7,6 @@ use Rattle.octets.specs.Wrote.{Wrote}
 use Rattle.octets.proofs.Parts.{wrote_none}
 use Rattle.parameters.specs.declared.ComebackToWrite.{ComebackToWrite}
 use Rattle.parameters.specs.Parameters.{side_of, comeback_by, comeback_octets, Fits}
-use borrow.Author.Rules.{rules}
 use Rattle.parameters.proofs.put_comeback.Goals as goal
 
 -- what is asked and promised, over what is to be written

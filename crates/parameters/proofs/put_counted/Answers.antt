@@ -1,5 +1,4 @@
 use Rattle.octets.proofs.Parts.{wrote_more}
-use borrow.Author.Rules.{rules}
 use Rattle.parameters.proofs.put_counted.Goals as goal
 
 pub returns : goal.returns

@@ -1,6 +1,5 @@
 use native.Mathlib.Omega.{arith}
 use Rattle.octets.specs.Numbers.{octets}
-use borrow.Author.Rules.{rules}
 use Rattle.parameters.proofs.put_offer.Goals as goal
 
 pub put_numbered-requires : goal.put_numbered-requires

@@ -3,7 +3,6 @@ use native.Mathlib.Omega.{arith}
 use borrow.Author.Tests.{le-ltb, lt-ltb, le-leb, lt-leb, eq-eqb, ne_eqb}
 use Rattle.parameters.specs.Parameters.{parameters_of}
 use Rattle.parameters.proofs.Laws.{after_width_most}
-use borrow.Author.Rules.{rules}
 use Rattle.parameters.proofs.read.Goals as goal
 
 pub returns-then-content-lt2 : goal.returns-then-content-lt2

@@ -2,7 +2,6 @@ use Prim.Native.Nat.{◌+◌}
 use native.Mathlib.Omega.{arith}
 use borrow.Author.Tests.{le-ltb, lt-ltb, eq-eqb, ne_eqb}
 use Rattle.parameters.specs.Parameters.{offer_from}
-use borrow.Author.Rules.{rules}
 use Rattle.parameters.proofs.read_offer.Goals as goal
 
 pub returns-then-content-at : goal.returns-then-content-at

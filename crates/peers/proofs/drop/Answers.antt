@@ -1,12 +1,9 @@
-use Prim.Native.Nat.{◌-◌}
 use mathlib.Core.Path.{sym, ap, ◌∙◌}
 use mathlib.Core.Bool.{not}
-use mathlib.Core.Logic.{⊎_elim}
 use native.Mathlib.Omega.{arith}
 use borrow.Author.Rules.{rules}
-use Rattle.peers.specs.View.{vacant_peer}
 use Rattle.peers.proofs.Places.{long}
-use Rattle.peers.proofs.Filling.{Filling, filling_begins, filling_keeps, filling_stores, filling_ends}
+use Rattle.peers.proofs.Filling.{filling_begins, filling_keeps, filling_stores, filling_ends}
 use Rattle.peers.proofs.Promised.{elsewhere, drops}
 use Rattle.peers.proofs.drop.Goals as goal
 use Rattle.peers.proofs.drop.Goals.{then-is_of, else-is_of}
@@ -17,9 +14,9 @@ loop-place-init c = filling_begins _ _ _ (search (rules, long))
 pub loop-place-preserved : goal.loop-place-preserved
 loop-place-preserved c =
     elim c.if-is_of.branch [
-      then-is_of w ↦
-        rw (w.t-is, c.vacant-blank.ensures) (filling_stores _ c.loop-place.invariant (omega arith) (ap not (sym c.is_of.ensures ∙ w.if-is_of.true)))
-    | else-is_of w ↦ rw w.t-is (filling_keeps _ c.loop-place.invariant (omega arith) (ap not (sym c.is_of.ensures ∙ w.if-is_of.false)))
+      | then-is_of w ↦
+          rw (w.t-is, c.vacant-blank.ensures) (filling_stores _ c.loop-place.invariant (omega arith) (ap not (sym c.is_of.ensures ∙ w.if-is_of.true)))
+      | else-is_of w ↦ rw w.t-is (filling_keeps _ c.loop-place.invariant (omega arith) (ap not (sym c.is_of.ensures ∙ w.if-is_of.false)))
     ]
 
 pub returns : goal.returns

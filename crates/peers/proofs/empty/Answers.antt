@@ -1,5 +1,4 @@
 use Rattle.peers.proofs.Promised.{nobody}
-use borrow.Author.Rules.{rules}
 use Rattle.peers.proofs.empty.Goals as goal
 
 pub returns : goal.returns

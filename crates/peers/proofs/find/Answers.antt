@@ -1,8 +1,6 @@
-use Prim.Native.Nat.{◌-◌}
 use mathlib.Core.Path.{sym, ◌∙◌}
-use mathlib.Core.Logic.{⊎_elim}
 use borrow.Author.Rules.{rules}
-use Rattle.peers.proofs.Places.{long, Searched, searched_none, searched_stops, searched_taken, searched_free, searched_all}
+use Rattle.peers.proofs.Places.{long, searched_none, searched_stops, searched_taken, searched_free, searched_all}
 use Rattle.peers.proofs.find.Goals as goal
 use Rattle.peers.proofs.find.Goals.{then-is_live+else-is_of, else-is_live}
 
@@ -19,9 +17,9 @@ pub loop-i-preserved : goal.loop-i-preserved
 loop-i-preserved c =
     let h = sym c.is_live.ensures in
     elim c.if-is_live.branch [
-      then-is_live+else-is_of w ↦
-        rw w.free-is (searched_taken c.loop-i.invariant c.loop-i-test.true (h ∙ w.if-is_live.true) (sym w.is_of.ensures ∙ w.if-is_of.false))
-    | else-is_live w ↦ rw w.free-is (searched_free c.loop-i.invariant c.loop-i-test.true (h ∙ w.if-is_live.false))
+      | then-is_live+else-is_of w ↦
+          rw w.free-is (searched_taken c.loop-i.invariant c.loop-i-test.true (h ∙ w.if-is_live.true) (sym w.is_of.ensures ∙ w.if-is_of.false))
+      | else-is_live w ↦ rw w.free-is (searched_free c.loop-i.invariant c.loop-i-test.true (h ∙ w.if-is_live.false))
     ]
 
 pub returns-then-free : goal.returns-then-free

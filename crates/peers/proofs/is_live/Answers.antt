@@ -1,4 +1,3 @@
-use borrow.Author.Rules.{rules}
 use Rattle.peers.proofs.is_live.Goals as goal
 
 pub returns : goal.returns

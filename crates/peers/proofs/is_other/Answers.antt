@@ -1,6 +1,5 @@
 use mathlib.Core.Path.{sym, ap, ◌∙◌}
 use mathlib.Core.Bool.{not, and-true}
-use borrow.Author.Rules.{rules}
 use Rattle.peers.proofs.is_other.Goals as goal
 
 pub returns-then-is_live : goal.returns-then-is_live

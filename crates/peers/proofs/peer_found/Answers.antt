@@ -1,7 +1,6 @@
 use mathlib.Core.Path.{subst}
 use native.Mathlib.Omega.{arith}
 use Rattle.peers.specs.Promises.{IsPlace}
-use borrow.Author.Rules.{rules}
 use Rattle.peers.proofs.peer_found.Goals as goal
 
 pub offset_bounds-t-i : goal.offset_bounds-t-i

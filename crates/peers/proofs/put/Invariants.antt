@@ -1,11 +1,6 @@
 use Prim.Native.Nat.{◌-◌}
-use mathlib.Core.Path.{sym, ◌∙◌}
-use mathlib.Core.Logic.{⊎_elim}
-use borrow.Author.Rules.{rules}
-use borrow.Author.Tests.{not-true, not-false}
-use Rattle.peers.proofs.Places.{long}
-use Rattle.peers.proofs.Filling.{Filling, filling_begins, filling_keeps, filling_stores, filling_ends}
-use Rattle.peers.proofs.Promised.{taken, puts}
+use Rattle.peers.proofs.Filling.{Filling}
+use Rattle.peers.proofs.Promised.{taken}
 use Rattle.peers.proofs.put.Given as goal
 
 abbrev pub invariant-loop-i : goal.invariant-loop-i

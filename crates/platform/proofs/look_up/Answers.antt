@@ -1,7 +1,6 @@
 use native.Mathlib.Omega.{arith}
 use Rattle.platform.proofs.Finding.{found_at, found_none}
 use Rattle.platform.proofs.Asking.{looks_clock, looks_group, looks_none, looks_some}
-use borrow.Author.Rules.{rules}
 use Rattle.platform.proofs.look_up.Goals as goal
 
 pub returns-in_default : goal.returns-in_default

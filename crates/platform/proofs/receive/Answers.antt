@@ -1,11 +1,9 @@
 use mathlib.Core.Path.{sym, ap, ◌∙◌}
-use Rattle.rules.specs.OnePeer.{Call}
 use Rattle.rules.specs.Told.{call_of}
 use Rattle.rules.proofs.Checks.{checks_ready}
 use Rattle.checks.specs.Checked.{failure}
 use Rattle.platform.proofs.Finding.{is_place, sees}
 use Rattle.platform.proofs.Receiving.{received_early, received_same, received_gone, received_becomes}
-use borrow.Author.Rules.{rules}
 use Rattle.platform.proofs.receive.Goals as goal
 
 pub returns-in-Failed : goal.returns-in-Failed

@@ -1,6 +1,5 @@
 use Rattle.platform.proofs.Finding.{found_at, found_none}
 use Rattle.platform.proofs.Asking.{removes_clock, removes_group, removes_none, removes_some}
-use borrow.Author.Rules.{rules}
 use Rattle.platform.proofs.remove.Goals as goal
 
 pub returns-in_default : goal.returns-in_default

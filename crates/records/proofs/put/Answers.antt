@@ -2,7 +2,6 @@ use mathlib.Core.Path.{sym}
 use Rattle.records.specs.Record.{octets_of}
 use Rattle.octets.proofs.Writers.{more}
 use Rattle.records.proofs.Told.{told}
-use borrow.Author.Rules.{rules}
 use Rattle.records.proofs.put.Goals as goal
 
 pub returns : goal.returns

@@ -2,7 +2,6 @@ use mathlib.Core.Path.{refl}
 use native.Mathlib.Omega.{arith}
 use Rattle.records.specs.Record.{address_at, pmkid_at, peer_of}
 use Rattle.octets.proofs.Writers.{copied_part}
-use borrow.Author.Rules.{rules}
 use Rattle.records.proofs.read.Goals as goal
 
 pub returns : goal.returns

@@ -1,5 +1,4 @@
 use borrow.Author.Tests.{eq-eqb, ne_eqb}
-use borrow.Author.Rules.{rules}
 use Rattle.rsne.proofs.only_of.Goals as goal
 
 pub returns-then-count-eq1 : goal.returns-then-count-eq1

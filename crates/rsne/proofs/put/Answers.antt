@@ -7,7 +7,6 @@ use Rattle.octets.proofs.Parts.{wrote_more}
 use Rattle.suites.specs.Suite.{suite_octets}
 use Rattle.suites.proofs.Laws.{length_suite}
 use Rattle.rsne.specs.Rsne.{rsne_octets}
-use borrow.Author.Rules.{rules}
 use Rattle.rsne.proofs.put.Goals as goal
 
 pub overflow_add-result : goal.overflow_add-result

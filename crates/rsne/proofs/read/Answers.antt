@@ -2,7 +2,6 @@ use mathlib.Core.Path.{sym, ◌∙◌}
 use native.Mathlib.Omega.{arith}
 use Rattle.rsne.specs.Rsne.{pairwise_count}
 use Rattle.rsne.proofs.Laws.{ill_version, ill_length, akms, pmkids, good}
-use borrow.Author.Rules.{rules}
 use Rattle.rsne.proofs.read.Goals as goal
 
 pub returns-then-n-lt18 : goal.returns-then-n-lt18

@@ -1,4 +1,3 @@
-use borrow.Author.Rules.{rules}
 use Rattle.scan.proofs.kind_of.Goals as goal
 
 pub returns-in-Id : goal.returns-in-Id

@@ -1,6 +1,5 @@
 use mathlib.Core.Path.{sym, ◌∙◌}
 use borrow.Author.Tests.{eq-eqb, ne_eqb}
-use borrow.Author.Rules.{rules}
 use Rattle.scan.proofs.mark.Goals as goal
 
 pub returns-then-kind_number : goal.returns-then-kind_number

@@ -1,11 +1,6 @@
-use mathlib.Core.Path.{sym, ◌∙◌}
 use Prim.Native.Nat.{◌-◌}
-use native.Mathlib.Omega.{arith}
-use borrow.Author.Rules.{rules}
 use lib.ListN.{length}
-use Rattle.scan.specs.Scan.{places_of}
-use Rattle.elements.proofs.Standing.{stood}
-use Rattle.scan.proofs.Scanning.{Scanned, scanned_none, scanned_more, scanned_all, scanned_failed}
+use Rattle.scan.proofs.Scanning.{Scanned}
 use Rattle.scan.proofs.scan_elements.Given as goal
 
 abbrev pub invariant-loop-e : goal.invariant-loop-e

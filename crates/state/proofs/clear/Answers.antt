@@ -1,6 +1,5 @@
 use mathlib.Core.Path.{refl, ◌∙◌}
 use Rattle.state.proofs.Stores.{stores, blank}
-use borrow.Author.Rules.{rules}
 use Rattle.state.proofs.clear.Goals as goal
 
 pub returns : goal.returns

@@ -1,5 +1,4 @@
 use Rattle.state.proofs.Stores.{redates_same, redates_new}
-use borrow.Author.Rules.{rules}
 use Rattle.state.proofs.date.Goals as goal
 
 pub returns-then-reading-le8 : goal.returns-then-reading-le8

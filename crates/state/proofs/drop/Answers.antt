@@ -1,12 +1,7 @@
-use Prim.Native.Nat.{◌-◌}
 use mathlib.Core.Path.{sym, ap, ◌∙◌}
 use mathlib.Core.Bool.{not}
-use mathlib.Core.Logic.{⊎_elim}
-use borrow.Author.Rules.{rules}
-use Rattle.peers.specs.View.{vacant_peer}
-use Rattle.peers.proofs.Filling.{Filling, filling_begins, filling_keeps, filling_stores, filling_ends}
-use Rattle.peers.proofs.Promised.{elsewhere, drops}
-use Rattle.state.specs.State.{table_of}
+use Rattle.peers.proofs.Filling.{filling_begins, filling_keeps, filling_stores, filling_ends}
+use Rattle.peers.proofs.Promised.{drops}
 use Rattle.state.proofs.Places.{places}
 use Rattle.state.proofs.drop.Goals as goal
 use Rattle.state.proofs.drop.Goals.{then-of_at, else-of_at}
@@ -18,8 +13,8 @@ pub loop-j-preserved : goal.loop-j-preserved
 loop-j-preserved c =
     let h = sym c.of_at.ensures in
     elim c.if-of_at.branch [
-      then-of_at w ↦ rw (w.s-is, w.clear.ensures) (filling_stores _ c.loop-j.invariant c.loop-j-test.true (ap not (h ∙ w.if-of_at.true)))
-    | else-of_at w ↦ rw w.s-is (filling_keeps _ c.loop-j.invariant c.loop-j-test.true (ap not (h ∙ w.if-of_at.false)))
+      | then-of_at w ↦ rw (w.s-is, w.clear.ensures) (filling_stores _ c.loop-j.invariant c.loop-j-test.true (ap not (h ∙ w.if-of_at.true)))
+      | else-of_at w ↦ rw w.s-is (filling_keeps _ c.loop-j.invariant c.loop-j-test.true (ap not (h ∙ w.if-of_at.false)))
     ]
 
 pub returns : goal.returns

@@ -1,13 +1,8 @@
 use Prim.Native.Nat.{◌-◌}
-use mathlib.Core.Path.{sym, ap, ◌∙◌}
-use mathlib.Core.Bool.{not}
-use mathlib.Core.Logic.{⊎_elim}
-use borrow.Author.Rules.{rules}
 use Rattle.peers.specs.View.{vacant_peer}
-use Rattle.peers.proofs.Filling.{Filling, filling_begins, filling_keeps, filling_stores, filling_ends}
-use Rattle.peers.proofs.Promised.{elsewhere, drops}
+use Rattle.peers.proofs.Filling.{Filling}
+use Rattle.peers.proofs.Promised.{elsewhere}
 use Rattle.state.specs.State.{table_of}
-use Rattle.state.proofs.Places.{places}
 use Rattle.state.proofs.drop.Given as goal
 
 abbrev pub invariant-loop-j : goal.invariant-loop-j

@@ -1,9 +1,5 @@
-use Prim.Native.Nat.{◌-◌}
 use mathlib.Core.Path.{sym, ◌∙◌}
-use mathlib.Core.Logic.{⊎_elim}
-use borrow.Author.Rules.{rules}
-use Rattle.peers.proofs.Places.{Searched, searched_none, searched_stops, searched_taken, searched_free, searched_all}
-use Rattle.state.specs.State.{table_of}
+use Rattle.peers.proofs.Places.{searched_none, searched_stops, searched_taken, searched_free, searched_all}
 use Rattle.state.proofs.Places.{places}
 use Rattle.state.proofs.find.Goals as goal
 use Rattle.state.proofs.find.Goals.{then-live_at+else-of_at, else-live_at}
@@ -21,9 +17,9 @@ pub loop-i-preserved : goal.loop-i-preserved
 loop-i-preserved c =
     let h = sym c.live_at.ensures in
     elim c.if-live_at.branch [
-      then-live_at+else-of_at w ↦
-        rw w.free-is (searched_taken c.loop-i.invariant c.loop-i-test.true (h ∙ w.if-live_at.true) (sym w.of_at.ensures ∙ w.if-of_at.false))
-    | else-live_at w ↦ rw w.free-is (searched_free c.loop-i.invariant c.loop-i-test.true (h ∙ w.if-live_at.false))
+      | then-live_at+else-of_at w ↦
+          rw w.free-is (searched_taken c.loop-i.invariant c.loop-i-test.true (h ∙ w.if-live_at.true) (sym w.of_at.ensures ∙ w.if-of_at.false))
+      | else-live_at w ↦ rw w.free-is (searched_free c.loop-i.invariant c.loop-i-test.true (h ∙ w.if-live_at.false))
     ]
 
 pub returns-then-free : goal.returns-then-free

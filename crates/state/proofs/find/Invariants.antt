@@ -1,10 +1,6 @@
 use Prim.Native.Nat.{◌-◌}
-use mathlib.Core.Path.{sym, ◌∙◌}
-use mathlib.Core.Logic.{⊎_elim}
-use borrow.Author.Rules.{rules}
-use Rattle.peers.proofs.Places.{Searched, searched_none, searched_stops, searched_taken, searched_free, searched_all}
+use Rattle.peers.proofs.Places.{Searched}
 use Rattle.state.specs.State.{table_of}
-use Rattle.state.proofs.Places.{places}
 use Rattle.state.proofs.find.Given as goal
 
 abbrev pub invariant-loop-i : goal.invariant-loop-i

@@ -1,5 +1,4 @@
 use Rattle.state.specs.State.{table_of}
-use borrow.Author.Rules.{rules}
 use Rattle.state.proofs.latest.Goals as goal
 
 pub returns : goal.returns

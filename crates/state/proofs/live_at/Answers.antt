@@ -1,6 +1,5 @@
 use mathlib.Core.Path.{sym}
 use Rattle.state.proofs.Places.{lives}
-use borrow.Author.Rules.{rules}
 use Rattle.state.proofs.live_at.Goals as goal
 
 pub returns : goal.returns

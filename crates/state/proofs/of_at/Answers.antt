@@ -4,7 +4,6 @@ use mathlib.Core.List.{List}
 use Rattle.octets.specs.Equality.{same_octets}
 use Rattle.records.specs.Record.{address_at, record_size}
 use Rattle.state.proofs.Places.{part, address_stands}
-use borrow.Author.Rules.{rules}
 use Rattle.state.proofs.of_at.Goals as goal
 
 pub returns : goal.returns

@@ -1,6 +1,5 @@
 use mathlib.Core.Path.{sym, ap, ◌∙◌}
 use mathlib.Core.Bool.{not, and-true}
-use borrow.Author.Rules.{rules}
 use Rattle.state.proofs.other_at.Goals as goal
 
 pub returns-then-live_at : goal.returns-then-live_at

@@ -2,7 +2,6 @@ use Prim.Native.Nat.{◌*◌}
 use mathlib.Core.Path.{sym, ap, ◌∙◌}
 use Rattle.records.specs.Record.{record_size, peer_of}
 use Rattle.state.proofs.Places.{part, peer_at}
-use borrow.Author.Rules.{rules}
 use Rattle.state.proofs.peer_at.Goals as goal
 
 pub returns : goal.returns

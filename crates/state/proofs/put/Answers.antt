@@ -1,13 +1,6 @@
-use Prim.Native.Nat.{◌-◌}
 use mathlib.Core.Path.{sym, ◌∙◌}
-use mathlib.Core.Logic.{⊎_elim}
-use borrow.Author.Rules.{rules}
-use borrow.Author.Tests.{not-true, not-false}
-use Rattle.octets.specs.Choice.{if◌then◌else◌}
-use Rattle.peers.specs.View.{vacant_peer}
-use Rattle.peers.proofs.Filling.{Filling, filling_begins, filling_keeps, filling_stores, filling_ends}
-use Rattle.peers.proofs.Promised.{taken, puts}
-use Rattle.state.specs.State.{table_of}
+use Rattle.peers.proofs.Filling.{filling_begins, filling_keeps, filling_stores, filling_ends}
+use Rattle.peers.proofs.Promised.{puts}
 use Rattle.state.proofs.Places.{places}
 use Rattle.state.proofs.put.Goals as goal
 use Rattle.state.proofs.put.Goals.{then-not-other_at+then-placed, then-not-other_at+else-placed, else-not-other_at}
@@ -19,14 +12,14 @@ pub loop-k-preserved : goal.loop-k-preserved
 loop-k-preserved c =
     let i = c.loop-k.invariant in
     elim c.if-not-other_at.branch [
-      then-not-other_at+then-placed w ↦
-        rw (w.s-is, w.placed-is, w.clear.ensures, w.if-placed.true)
-        (filling_stores _ (rw w.if-placed.true at i) c.loop-k-test.true (sym c.other_at.ensures ∙ w.if-not-other_at.true))
-    | then-not-other_at+else-placed w ↦
-        rw (w.s-is, w.placed-is, w.store.ensures)
-        (filling_stores _ (rw w.if-placed.false at i) c.loop-k-test.true (sym c.other_at.ensures ∙ w.if-not-other_at.true))
-    | else-not-other_at w ↦
-        rw (w.s-is, w.placed-is) (filling_keeps _ i c.loop-k-test.true (sym c.other_at.ensures ∙ w.if-not-other_at.false))
+      | then-not-other_at+then-placed w ↦
+          rw (w.s-is, w.placed-is, w.clear.ensures, w.if-placed.true)
+          (filling_stores _ (rw w.if-placed.true at i) c.loop-k-test.true (sym c.other_at.ensures ∙ w.if-not-other_at.true))
+      | then-not-other_at+else-placed w ↦
+          rw (w.s-is, w.placed-is, w.store.ensures)
+          (filling_stores _ (rw w.if-placed.false at i) c.loop-k-test.true (sym c.other_at.ensures ∙ w.if-not-other_at.true))
+      | else-not-other_at w ↦
+          rw (w.s-is, w.placed-is) (filling_keeps _ i c.loop-k-test.true (sym c.other_at.ensures ∙ w.if-not-other_at.false))
     ]
 
 pub returns : goal.returns

@@ -1,14 +1,9 @@
 use Prim.Native.Nat.{◌-◌}
-use mathlib.Core.Path.{sym, ◌∙◌}
-use mathlib.Core.Logic.{⊎_elim}
-use borrow.Author.Rules.{rules}
-use borrow.Author.Tests.{not-true, not-false}
 use Rattle.octets.specs.Choice.{if◌then◌else◌}
 use Rattle.peers.specs.View.{vacant_peer}
-use Rattle.peers.proofs.Filling.{Filling, filling_begins, filling_keeps, filling_stores, filling_ends}
-use Rattle.peers.proofs.Promised.{taken, puts}
+use Rattle.peers.proofs.Filling.{Filling}
+use Rattle.peers.proofs.Promised.{taken}
 use Rattle.state.specs.State.{table_of}
-use Rattle.state.proofs.Places.{places}
 use Rattle.state.proofs.put.Given as goal
 
 abbrev pub invariant-loop-k : goal.invariant-loop-k

@@ -1,6 +1,5 @@
 use mathlib.Core.Path.{sym, ◌∙◌}
 use Rattle.state.proofs.Stores.{stores}
-use borrow.Author.Rules.{rules}
 use Rattle.state.proofs.store.Goals as goal
 
 pub returns : goal.returns

@@ -1,5 +1,4 @@
 use mathlib.Core.Path.{sym, ◌∙◌}
-use borrow.Author.Rules.{rules}
 use Rattle.steps.proofs.choose_akm.Goals as goal
 
 pub returns-in_default-entry : goal.returns-in_default-entry

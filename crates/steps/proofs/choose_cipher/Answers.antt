@@ -2,7 +2,6 @@ use mathlib.Core.Path.{sym, ◌∙◌}
 use native.Mathlib.Omega.{arith}
 use borrow.Author.Tests.{eq-eqb, ne_eqb}
 use Rattle.suites.proofs.Laws.{cipher_found}
-use borrow.Author.Rules.{rules}
 use Rattle.steps.proofs.choose_cipher.Goals as goal
 
 pub returns-in_default-entry : goal.returns-in_default-entry

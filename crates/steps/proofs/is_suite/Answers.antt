@@ -1,4 +1,3 @@
-use borrow.Author.Rules.{rules}
 use Rattle.steps.proofs.is_suite.Goals as goal
 
 pub returns-in-Ours : goal.returns-in-Ours

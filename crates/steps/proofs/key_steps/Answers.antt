@@ -1,7 +1,5 @@
 use mathlib.Core.Path.{sym, ◌∙◌}
-use borrow.Author.Tests.{not-true, not-false}
 use Rattle.rules.specs.OnePeer.{key_steps}
-use borrow.Author.Rules.{rules}
 use Rattle.steps.proofs.key_steps.Goals as goal
 
 pub returns-in_default : goal.returns-in_default

@@ -1,5 +1,4 @@
 use Rattle.steps.proofs.Lifetimes.{shorter, no_longer}
-use borrow.Author.Rules.{rules}
 use Rattle.steps.proofs.lifetime_of.Goals as goal
 
 pub returns-then-s-most : goal.returns-then-s-most

@@ -1,7 +1,6 @@
 use mathlib.Core.Path.{refl}
 use Prim.Native.Nat.{◌*◌}
 use Rattle.octets.proofs.Writers.{copied_between}
-use borrow.Author.Rules.{rules}
 use Rattle.steps.proofs.pmkid_at.Goals as goal
 
 pub returns : goal.returns

@@ -10,7 +10,6 @@ use Rattle.rules.specs.declared.Refusal.{Refusal}
 use Rattle.rules.specs.OnePeer.{refuse, pass}
 use Rattle.steps.specs.Told.{pmkid_step_of}
 use Rattle.rules.proofs.Pmkids.{in_list, that_part}
-use borrow.Author.Rules.{rules}
 use Rattle.steps.proofs.pmkid_step.Goals as goal
 
 -- with AKM 21: none listed, or refused

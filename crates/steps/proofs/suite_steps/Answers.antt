@@ -1,8 +1,7 @@
 use mathlib.Core.Path.{sym, ap, ◌∙◌}
-use borrow.Author.Tests.{eq-eqb, ne_eqb, not-true, not-false}
+use borrow.Author.Tests.{eq-eqb, ne_eqb}
 use Rattle.rules.specs.OnePeer.{suite_steps}
 use Rattle.steps.specs.Told.{cipher_told, akm_told}
-use borrow.Author.Rules.{rules}
 use Rattle.steps.proofs.suite_steps.Goals as goal
 
 pub returns-then-format-ne0 : goal.returns-then-format-ne0

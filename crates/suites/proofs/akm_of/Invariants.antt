@@ -1,9 +1,8 @@
 use Prim.Native.Nat.{◌-◌}
 use lib.ListN.{length}
-use borrow.Author.Rules.{rules}
 use Rattle.suites.specs.declared.Akm.{Akm}
-use Rattle.suites.specs.Tables.{akms, akm_of}
-use Rattle.suites.proofs.Lookup.{Searched, searched_none, searched_more, searched_stops, searched_all}
+use Rattle.suites.specs.Tables.{akms}
+use Rattle.suites.proofs.Lookup.{Searched}
 use Rattle.suites.proofs.akm_of.Given as goal
 
 abbrev pub invariant-loop-i : goal.invariant-loop-i

@@ -1,9 +1,5 @@
-use Prim.Native.Nat.{◌-◌}
-use lib.ListN.{length}
-use borrow.Author.Rules.{rules}
-use Rattle.suites.specs.declared.Cipher.{Cipher}
-use Rattle.suites.specs.Tables.{ciphers, cipher_of}
-use Rattle.suites.proofs.Lookup.{Searched, searched_none, searched_more, searched_stops, searched_all}
+use Rattle.suites.specs.Tables.{cipher_of}
+use Rattle.suites.proofs.Lookup.{searched_none, searched_more, searched_stops, searched_all}
 use Rattle.suites.proofs.cipher_of.Goals as goal
 
 pub loop-i-init : goal.loop-i-init

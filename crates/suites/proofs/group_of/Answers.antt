@@ -1,9 +1,5 @@
-use Prim.Native.Nat.{◌-◌}
-use lib.ListN.{length}
-use borrow.Author.Rules.{rules}
-use Rattle.suites.specs.declared.Group.{Group}
-use Rattle.suites.specs.Tables.{groups, group_of}
-use Rattle.suites.proofs.Lookup.{Searched, searched_none, searched_more, searched_stops, searched_all}
+use Rattle.suites.specs.Tables.{group_of}
+use Rattle.suites.proofs.Lookup.{searched_none, searched_more, searched_stops, searched_all}
 use Rattle.suites.proofs.group_of.Goals as goal
 
 pub loop-i-init : goal.loop-i-init

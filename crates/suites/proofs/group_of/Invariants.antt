@@ -1,9 +1,8 @@
 use Prim.Native.Nat.{◌-◌}
 use lib.ListN.{length}
-use borrow.Author.Rules.{rules}
 use Rattle.suites.specs.declared.Group.{Group}
-use Rattle.suites.specs.Tables.{groups, group_of}
-use Rattle.suites.proofs.Lookup.{Searched, searched_none, searched_more, searched_stops, searched_all}
+use Rattle.suites.specs.Tables.{groups}
+use Rattle.suites.proofs.Lookup.{Searched}
 use Rattle.suites.proofs.group_of.Given as goal
 
 abbrev pub invariant-loop-i : goal.invariant-loop-i

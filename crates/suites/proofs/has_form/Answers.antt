@@ -1,6 +1,5 @@
 use borrow.Author.Tests.{eq-eqb, ne_eqb, le-leb, lt-leb}
 use Rattle.suites.specs.Tables.{has_form}
-use borrow.Author.Rules.{rules}
 use Rattle.suites.proofs.has_form.Goals as goal
 
 pub returns-then-key-form : goal.returns-then-key-form

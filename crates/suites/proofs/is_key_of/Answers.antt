@@ -1,5 +1,4 @@
 use Rattle.suites.specs.Tables.{is_key_of}
-use borrow.Author.Rules.{rules}
 use Rattle.suites.proofs.is_key_of.Goals as goal
 
 pub returns-then-has_form : goal.returns-then-has_form

@@ -1,9 +1,5 @@
-use Prim.Native.Nat.{◌-◌}
-use lib.ListN.{length}
-use borrow.Author.Rules.{rules}
-use Rattle.suites.specs.declared.Akm.{Akm}
-use Rattle.suites.specs.Tables.{akms, is_mic_length}
-use Rattle.suites.proofs.Lookup.{Searched, searched_none, searched_more, searched_stops, searched_all}
+use Rattle.suites.specs.Tables.{is_mic_length}
+use Rattle.suites.proofs.Lookup.{searched_none, searched_more, searched_stops, searched_all}
 use Rattle.suites.proofs.is_mic_length.Goals as goal
 
 pub loop-i-init : goal.loop-i-init

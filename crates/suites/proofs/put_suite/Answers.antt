@@ -1,5 +1,4 @@
 use Rattle.suites.specs.Suite.{suite_octets}
-use borrow.Author.Rules.{rules}
 use Rattle.suites.proofs.put_suite.Goals as goal
 
 pub returns : goal.returns

@@ -1,6 +1,5 @@
 use borrow.Author.Tests.{eq-eqb, ne_eqb}
 use Rattle.suites.specs.Suite.{suite_at}
-use borrow.Author.Rules.{rules}
 use Rattle.suites.proofs.suite_at.Goals as goal
 
 pub returns-then-s-at : goal.returns-then-s-at

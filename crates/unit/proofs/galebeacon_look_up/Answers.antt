@@ -4,7 +4,6 @@ use Rattle.peers.specs.Promises.{found_peer}
 use Rattle.records.specs.Record.{octets_of}
 use Rattle.unit.proofs.Within.{looks_in_clock, looks_in_group, looks_in_none, looks_in_some}
 use Rattle.state.specs.State.{table_of}
-use borrow.Author.Rules.{rules}
 use Rattle.unit.proofs.galebeacon_look_up.Goals as goal
 
 pub returns-in_default : goal.returns-in_default

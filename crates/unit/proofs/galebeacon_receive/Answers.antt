@@ -3,7 +3,6 @@ use Rattle.checks.specs.Checked.{failure}
 use Rattle.platform.proofs.Finding.{is_place}
 use Rattle.rules.proofs.Checks.{checks_ready}
 use Rattle.unit.proofs.Within.{in_early, in_same, in_gone, in_becomes}
-use borrow.Author.Rules.{rules}
 use Rattle.unit.proofs.galebeacon_receive.Goals as goal
 
 pub returns-in-Failed : goal.returns-in-Failed

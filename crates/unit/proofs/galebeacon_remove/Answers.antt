@@ -1,6 +1,5 @@
 use Rattle.platform.proofs.Finding.{found_at, found_none}
 use Rattle.unit.proofs.Within.{removes_in_clock, removes_in_group, removes_in_none, removes_in_some}
-use borrow.Author.Rules.{rules}
 use Rattle.unit.proofs.galebeacon_remove.Goals as goal
 
 pub returns-in_default : goal.returns-in_default

@@ -1,4 +1,3 @@
-use borrow.Author.Rules.{rules}
 use Rattle.unit.proofs.galebeacon_set_mic.Goals as goal
 
 pub returns : goal.returns

@@ -1,7 +1,6 @@
 use native.Mathlib.Omega.{arith}
 use Rattle.chip.proofs.Laws.{key_part_lies}
 use Rattle.unit.proofs.Keys.{key_at}
-use borrow.Author.Rules.{rules}
 use Rattle.unit.proofs.galebeacon_show_key.Goals as goal
 
 pub overflow_sub-result : goal.overflow_sub-result

@@ -1,7 +1,6 @@
 use mathlib.Core.Path.{sym, ◌∙◌}
 use native.Mathlib.Omega.{arith}
 use Rattle.frames.proofs.Otherwise.{one_lies}
-use borrow.Author.Rules.{rules}
 use Rattle.frames.proofs.contents.read_lifetime.Goals as goal
 
 pub slice_bounds-read-count : goal.slice_bounds-read-count

@@ -3,7 +3,6 @@ use native.Mathlib.Omega.{arith}
 use Rattle.frames.specs.ByElement.{rsne_in}
 use Rattle.frames.proofs.Inner.{rsne_lies}
 use Rattle.frames.proofs.Otherwise.{one_lies, not_one}
-use borrow.Author.Rules.{rules}
 use Rattle.frames.proofs.contents.read_rsne.Goals as goal
 
 pub returns-in_default : goal.returns-in_default

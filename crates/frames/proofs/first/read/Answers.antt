@@ -1,7 +1,4 @@
-use mathlib.Core.Option.{some}
-use mathlib.Core.Path.{◌≡◌, sym, ap, ◌∙◌}
-use Rattle.scan.specs.declared.Places.{Places}
-use Rattle.scan.specs.Scan.{scan_of}
+use mathlib.Core.Path.{sym, ap, ◌∙◌}
 use Rattle.frames.specs.ByElement.{is_lifetime_reading, is_offered}
 use Rattle.frames.specs.Contents.{is_walked, never, is_rsne, holds}
 use Rattle.frames.specs.First.{first_of}
@@ -9,7 +6,6 @@ use Rattle.frames.proofs.Chain.{apart}
 use Rattle.frames.proofs.Otherwise.{not_none}
 use Rattle.frames.proofs.Steps.{walked_lies}
 use Rattle.frames.proofs.first.Laws.{first_made, first_ill, first_unwrapped}
-use borrow.Author.Rules.{rules}
 use Rattle.frames.proofs.first.read.Goals as goal
 
 pub returns-in_default : goal.returns-in_default

@@ -4,7 +4,6 @@ use Rattle.parameters.specs.declared.Side.TheVariants.{Station}
 use Rattle.frames.specs.ByElement.{offered_in}
 use Rattle.frames.proofs.Inner.{key_lies}
 use Rattle.frames.proofs.Otherwise.{one_lies, not_one}
-use borrow.Author.Rules.{rules}
 use Rattle.frames.proofs.first.read_offered.Goals as goal
 
 pub returns-in_default : goal.returns-in_default

@@ -1,5 +1,4 @@
 use Rattle.frames.proofs.first.Laws.{absent_fits, present_fits}
-use borrow.Author.Rules.{rules}
 use Rattle.frames.proofs.first.wrapped_fits.Goals as goal
 
 pub returns-then-format-eq0 : goal.returns-then-format-eq0

@@ -1,7 +1,6 @@
 use mathlib.Core.Path.{refl, sym, ◌∙◌}
 use Rattle.frames.specs.ByElement.{quiet_in}
 use Rattle.frames.proofs.Otherwise.{one_lies, not_one, not_absent}
-use borrow.Author.Rules.{rules}
 use Rattle.frames.proofs.third.is_quiet.Goals as goal
 
 pub returns-in_default : goal.returns-in_default

@@ -3,7 +3,6 @@ use borrow.Author.Tests.{eq-eqb, ne_eqb}
 use Rattle.scan.specs.declared.Times.{Times}
 use Rattle.frames.specs.ByElement.{mic_in}
 use Rattle.frames.proofs.Otherwise.{not_one}
-use borrow.Author.Rules.{rules}
 use Rattle.frames.proofs.third.mic_of.Goals as goal
 
 pub returns-in_default : goal.returns-in_default

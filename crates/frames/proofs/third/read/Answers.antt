@@ -1,14 +1,10 @@
-use mathlib.Core.Option.{some}
-use mathlib.Core.Path.{◌≡◌, sym, ap, ◌∙◌}
-use Rattle.scan.specs.declared.Places.{Places}
-use Rattle.scan.specs.Scan.{scan_of}
+use mathlib.Core.Path.{sym, ap, ◌∙◌}
 use Rattle.frames.specs.Contents.{is_walked, never, holds}
 use Rattle.frames.specs.Third.{third_of}
 use Rattle.frames.proofs.Chain.{apart}
 use Rattle.frames.proofs.Otherwise.{ordered, not_none}
 use Rattle.frames.proofs.Steps.{walked_lies}
 use Rattle.frames.proofs.third.Laws.{third_ill, third_mic}
-use borrow.Author.Rules.{rules}
 use Rattle.frames.proofs.third.read.Goals as goal
 
 pub returns-in_default : goal.returns-in_default

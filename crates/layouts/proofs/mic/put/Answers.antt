@@ -3,7 +3,6 @@ use native.Mathlib.Omega.{arith}
 use lib.ListN.{length-replicate}
 use Rattle.octets.proofs.Parts.{wrote_more}
 use Rattle.layouts.specs.Mic.{mic_octets}
-use borrow.Author.Rules.{rules}
 use Rattle.layouts.proofs.mic.put.Goals as goal
 
 pub overflow_add-result : goal.overflow_add-result

@@ -2,7 +2,6 @@ use native.Mathlib.Omega.{arith}
 use Rattle.octets.proofs.Numbers.{length_octets}
 use Rattle.octets.proofs.Parts.{wrote_more}
 use Rattle.layouts.specs.Timeout.{timeout_octets}
-use borrow.Author.Rules.{rules}
 use Rattle.layouts.proofs.timeout.put.Goals as goal
 
 pub overflow_add-result : goal.overflow_add-result

@@ -1,7 +1,6 @@
 use mathlib.Core.Path.{sym, ◌∙◌}
 use borrow.Author.Tests.{eq-eqb, ne_eqb}
 use Rattle.layouts.specs.Timeout.{timeout_of}
-use borrow.Author.Rules.{rules}
 use Rattle.layouts.proofs.timeout.read.Goals as goal
 
 pub returns-then-content-ne5 : goal.returns-then-content-ne5

@@ -7,7 +7,6 @@ use Rattle.octets.specs.Wrote.{Wrote}
 use Rattle.octets.proofs.Numbers.{length_octets}
 use Rattle.octets.proofs.Parts.{wrote_room, wrote_more}
 use Rattle.writers.specs.Header.{header_octets}
-use borrow.Author.Rules.{rules}
 use Rattle.writers.proofs.header.put.Goals as goal
 
 -- Each writer tells two octets.

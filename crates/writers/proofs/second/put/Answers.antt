@@ -15,7 +15,6 @@ use Rattle.layouts.proofs.timeout.Laws.{length_timeout}
 use Rattle.writers.specs.Header.{header_size}
 use Rattle.writers.specs.Second.{second_octets}
 use Rattle.writers.proofs.header.Laws.{length_header}
-use borrow.Author.Rules.{rules}
 use Rattle.writers.proofs.second.put.Goals as goal
 
 -- Each answer says first how many octets each writer told, and then what room is left for the next one.

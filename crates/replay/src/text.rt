@@ -1,4 +1,4 @@
-// The words of a line, on standard output.
+// The words of a line, written to `out`.
 ghost use Rattle.std.specs.Prelude.{◌≡◌, ◌+◌, ◌*◌, ◌<◌, ◌≤◌, length, take};
 
 use std::io;

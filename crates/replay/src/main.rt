@@ -1,7 +1,7 @@
 // Replays the call log on standard input: makes its calls, from the empty table on, and prints a line for each.
 #![tactic(auto)]
 
-mod calls;
+mod call_records;
 mod lines;
 mod setup;
 mod text;
@@ -57,7 +57,7 @@ fn act(
             installed: 0,
         });
     }
-    let called = calls::call(out, t, setup, tag, value, cache, key, mic, buffer)?;
+    let called = call_records::call(out, t, setup, tag, value, cache, key, mic, buffer)?;
     let after = called.table;
     Ok(Left {
         table: after,

@@ -1,6 +1,6 @@
 use Rattle.std.proofs.Common.{arith}
 use Rattle.chip.proofs.Laws.{key_part_lies}
-use Rattle.replay.proofs.calls.show_key.Goals as goal
+use Rattle.replay.proofs.call_records.show_key.Goals as goal
 
 pub slice_bounds-put_key-count : goal.slice_bounds-put_key-count
 slice_bounds-put_key-count g c = rw c.show_key-key.ensures (omega (arith, key_part_lies c.args.body.now))

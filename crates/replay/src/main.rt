@@ -1,16 +1,18 @@
 // Replays the call log on standard input: makes its calls, from the empty table on, and prints a line for each.
 #![tactic(auto)]
 
-mod calls;
+mod call_records;
 mod lines;
 mod setup;
 mod text;
 
-ghost use Rattle.std.specs.Prelude.{◌≤◌, length};
+ghost use Rattle.std.specs.Prelude.{◌<◌, ◌≤◌, length, take, IfOk};
+ghost use Rattle.std.specs.Io.KnownBytes.{Consumes, IsAtEnd};
 
-use libc::STDIN_FILENO;
 use peers::Table;
 use setup::{ANY, LONGEST_LENT, Setup};
+use std::io;
+use std::io::{BufWriter, Read, Write};
 
 #[derive(Clone, Copy)]
 enum Going {
@@ -38,6 +40,7 @@ struct Left {
 }
 
 fn act(
+    out: &mut impl Write,
     t: Table,
     setup: Setup,
     tag: u8,
@@ -46,21 +49,21 @@ fn act(
     key: &mut [u8; LONGEST_LENT],
     mic: &mut [u8; LONGEST_LENT],
     buffer: &mut [u8; ANY],
-) -> Left {
+) -> io::Result<Left> {
     if tag < 16 {
-        return Left {
+        return Ok(Left {
             table: t,
             setup: setup::change(setup, tag, value, cache, key, mic),
             installed: 0,
-        };
+        });
     }
-    let called = calls::call(t, setup, tag, value, cache, key, mic, buffer);
+    let called = call_records::call(out, t, setup, tag, value, cache, key, mic, buffer)?;
     let after = called.table;
-    Left {
+    Ok(Left {
         table: after,
         setup: setup::that_fits(setup, called.fits),
         installed: called.installed,
-    }
+    })
 }
 
 // A record's tag and length.
@@ -79,27 +82,45 @@ enum Next {
     Cut,
 }
 
+// Reads until the buffer is full or the input ends, and says how many octets came.
+fn read_full<R: Read>(input: &mut R, buffer: &mut [u8]) -> io::Result<usize>
+    ensures within { IfOk result (λ n. n ≤ length buffer.new) }
+    ensures octets { IfOk result
+        (λ n. Consumes (R.remaining input.old) (R.remaining input.new) (take n buffer.new)) }
+    ensures whole { IfOk result (λ n. n < length buffer.new → IsAtEnd (R.remaining input.new)) }
+{
+    let mut done = 0;
+    while done < buffer.len() {
+        let n = input.read(&mut buffer[done..])?;
+        if n == 0 {
+            break;
+        }
+        done += n;
+    }
+    Ok(done)
+}
+
 // Reads one record whole.
-fn read_next(value: &mut [u8]) -> Next
+fn read_next(input: &mut impl Read, value: &mut [u8]) -> io::Result<Next>
     requires { 65536 ≤ length value.old }
 {
     let mut head = [0u8; HEAD];
-    let n = io::read_full(STDIN_FILENO, &mut head);
+    let n = read_full(input, &mut head)?;
     if n == 0 {
-        return Next::Ended;
+        return Ok(Next::Ended);
     }
     if n < HEAD {
-        return Next::Cut;
+        return Ok(Next::Cut);
     }
     let length = octets::le2(&head, 1);
     let most = length as usize;
-    if io::read_full(STDIN_FILENO, &mut value[0..most]) < most {
-        return Next::Cut;
+    if read_full(input, &mut value[0..most])? < most {
+        return Ok(Next::Cut);
     }
-    Next::Is(Head {
+    Ok(Next::Is(Head {
         tag: head[0],
         length: length,
-    })
+    }))
 }
 
 fn going_by(setup: Setup) -> Going {
@@ -127,6 +148,7 @@ fn moved_on(s: State, left: Left, octets: u64) -> State {
 }
 
 fn take(
+    out: &mut impl Write,
     s: State,
     head: Head,
     value: &mut [u8],
@@ -134,13 +156,14 @@ fn take(
     key: &mut [u8; LONGEST_LENT],
     mic: &mut [u8; LONGEST_LENT],
     buffer: &mut [u8; ANY],
-) -> State
+) -> io::Result<State>
     requires { 65536 ≤ length value.old }
 {
     let table = s.table;
     let setup = s.setup;
     let n = head.length as usize;
     let left = act(
+        out,
         table,
         setup,
         head.tag,
@@ -149,32 +172,34 @@ fn take(
         key,
         mic,
         buffer,
-    );
-    moved_on(s, left, (HEAD + n) as u64)
+    )?;
+    Ok(moved_on(s, left, (HEAD + n) as u64))
 }
 
 // One record.
 fn step(
+    input: &mut impl Read,
+    out: &mut impl Write,
     s: State,
     value: &mut [u8],
     cache: &mut [u8; ANY],
     key: &mut [u8; LONGEST_LENT],
     mic: &mut [u8; LONGEST_LENT],
     buffer: &mut [u8; ANY],
-) -> State
+) -> io::Result<State>
     requires { 65536 ≤ length value.old }
 {
-    let next = read_next(value);
+    let next = read_next(input, value)?;
     match next {
-        Next::Ended => State {
+        Next::Ended => Ok(State {
             going: Going::Ended,
             ..s
-        },
-        Next::Cut => State {
+        }),
+        Next::Cut => Ok(State {
             going: Going::Bad,
             ..s
-        },
-        Next::Is(head) => take(s, head, value, cache, key, mic, buffer),
+        }),
+        Next::Is(head) => take(out, s, head, value, cache, key, mic, buffer),
     }
 }
 
@@ -186,19 +211,21 @@ fn is_on(s: State) -> bool {
     false
 }
 
-fn put_last(s: State) {
+fn put_last(out: &mut impl Write, s: State) -> io::Result<()> {
     let going = s.going;
     if let Going::Bad = going {
-        text::put(b"bad ");
-        text::put_number(s.place);
+        text::put(out, b"bad ")?;
+        text::put_number(out, s.place)?;
     } else {
-        text::put(b"counted ");
-        text::put_number(s.counted);
+        text::put(out, b"counted ")?;
+        text::put_number(out, s.counted)?;
     }
-    text::put(b"\n");
+    text::put(out, b"\n")
 }
 
-fn main() {
+fn main(rt: HostRuntime) -> io::Result<()> {
+    let mut input = rt.stdin();
+    let mut out = BufWriter::new(rt.alloc(), rt.stdout())?;
     let mut value = [0u8; ANY];
     let mut cache = [0u8; ANY];
     let mut key = [0u8; LONGEST_LENT];
@@ -214,8 +241,18 @@ fn main() {
     // A proved loop ends: this one after more records than any log has.
     let mut records = u64::MAX;
     while records > 0 && is_on(s) {
-        s = step(s, &mut value, &mut cache, &mut key, &mut mic, &mut buffer);
+        s = step(
+            &mut input,
+            &mut out,
+            s,
+            &mut value,
+            &mut cache,
+            &mut key,
+            &mut mic,
+            &mut buffer,
+        )?;
         records -= 1;
     }
-    put_last(s);
+    put_last(&mut out, s)?;
+    out.flush()
 }

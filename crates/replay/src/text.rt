@@ -1,15 +1,15 @@
-// The words of a line, on standard output.
-ghost use Rattle.std.specs.Prelude.{◌+◌, ◌*◌, ◌<◌, ◌≤◌, length};
-ghost use Rattle.io.specs.Counts.{IsPrefixLen};
+// The words of a line, written to `out`.
+ghost use Rattle.std.specs.Prelude.{◌≡◌, ◌+◌, ◌*◌, ◌<◌, ◌≤◌, length, take};
 
-use libc::STDOUT_FILENO;
+use std::io;
+use std::io::Write;
 
-pub fn put(text: &[u8]) {
-    io::write_all(STDOUT_FILENO, text);
+pub fn put(out: &mut impl Write, text: &[u8]) -> io::Result<()> {
+    out.write_all(text)
 }
 
-pub fn put_number(n: u64) {
-    io::print_decimal(STDOUT_FILENO, n);
+pub fn put_number(out: &mut impl Write, n: u64) -> io::Result<()> {
+    write!(out, "{n}")
 }
 
 fn digit(n: u8) -> u8
@@ -32,7 +32,7 @@ fn low_digit(octet: u8) -> u8 {
 // Two digits an octet.
 fn spell(s: &[u8], digits: &mut [u8]) -> usize
     requires { 2 * length s.now ≤ length digits.old }
-    ensures { IsPrefixLen result digits.new }
+    ensures { (result ≤ length digits.new) × (result ≡ length (take result digits.new)) }
 {
     let mut i = 0;
     while i < s.len() {
@@ -58,16 +58,17 @@ fn chunk_end(at: usize, length: usize) -> usize
 }
 
 // Digits, or `-` where there is no octet.
-pub fn put_octets(s: &[u8]) {
+pub fn put_octets(out: &mut impl Write, s: &[u8]) -> io::Result<()> {
     if s.len() == 0 {
-        put(b"-");
+        put(out, b"-")?;
     }
     let mut at = 0;
     while at < s.len() {
         let end = chunk_end(at, s.len());
         let mut digits = [0u8; 2 * CHUNK];
         let n = spell(&s[at..end], &mut digits);
-        put(&digits[..n]);
+        put(out, &digits[..n])?;
         at = end;
     }
+    Ok(())
 }

@@ -5,6 +5,8 @@ use crate::setup::{ANY, LONGEST_BUFFER, LONGEST_LENT, Setup};
 use crate::{lines, text};
 use peers::Table;
 use rules::{Answer, Brought};
+use std::io;
+use std::io::Write;
 use units::Tu;
 
 const LONGEST_BODY: usize = 4096;
@@ -58,6 +60,7 @@ fn refuse(t: Table) -> Called {
 }
 
 fn hear(
+    out: &mut impl Write,
     t: Table,
     brought: Brought,
     cache: &[u8],
@@ -65,20 +68,21 @@ fn hear(
     mic: &[u8],
     body: &[u8],
     reply: &mut [u8],
-) -> Called {
+) -> io::Result<Called> {
     let received = platform::receive(t, brought, cache, key, mic, body, reply);
     let table = received.table;
     let answer = received.answer;
     let length = received.length;
-    lines::put_received(answer, &reply[0..length]);
-    Called {
+    lines::put_received(out, answer, &reply[0..length])?;
+    Ok(Called {
         table: table,
         fits: true,
         installed: one_if_installed(answer),
-    }
+    })
 }
 
 fn receive_with(
+    out: &mut impl Write,
     t: Table,
     s: Setup,
     value: &[u8],
@@ -86,12 +90,12 @@ fn receive_with(
     key: &[u8],
     mic: &[u8],
     reply: &mut [u8],
-) -> Called {
+) -> io::Result<Called> {
     if value.len() < WHO {
-        return refuse(t);
+        return Ok(refuse(t));
     }
     if value.len() > WHO + LONGEST_BODY {
-        return refuse(t);
+        return Ok(refuse(t));
     }
     let settings = s.settings;
     let lent = s.lent;
@@ -101,11 +105,12 @@ fn receive_with(
         address: address_of(value),
         lent: lent,
     };
-    hear(t, brought, cache, key, mic, &value[WHO..], reply)
+    hear(out, t, brought, cache, key, mic, &value[WHO..], reply)
 }
 
 // A receive, with what is in force of each buffer.
 fn receive(
+    out: &mut impl Write,
     t: Table,
     s: Setup,
     value: &[u8],
@@ -113,7 +118,7 @@ fn receive(
     key: &[u8],
     mic: &[u8],
     reply: &mut [u8],
-) -> Called
+) -> io::Result<Called>
     requires { (65536 ≤ length cache.now) × (255 ≤ length key.now) × (255 ≤ length mic.now) × (65536 ≤ length reply.old) }
 {
     let file = s.cache as usize;
@@ -121,6 +126,7 @@ fn receive(
     let lent = s.mic as usize;
     let room = s.room as usize;
     receive_with(
+        out,
         t,
         s,
         value,
@@ -131,80 +137,87 @@ fn receive(
     )
 }
 
-fn look_up(t: Table, value: &[u8]) -> Called {
+fn look_up(out: &mut impl Write, t: Table, value: &[u8]) -> io::Result<Called> {
     if value.len() != WHO {
-        return refuse(t);
+        return Ok(refuse(t));
     }
     let looked = platform::look_up(t, address_of(value), reading_of(value));
     let answer = looked.answer;
     let peer = looked.peer;
-    lines::put_looked_up(answer, peer);
-    done(t)
+    lines::put_looked_up(out, answer, peer)?;
+    Ok(done(t))
 }
 
-fn remove(t: Table, value: &[u8]) -> Called {
+fn remove(out: &mut impl Write, t: Table, value: &[u8]) -> io::Result<Called> {
     if value.len() != WHO {
-        return refuse(t);
+        return Ok(refuse(t));
     }
     let removed = platform::remove(t, address_of(value), reading_of(value));
     let answer = removed.answer;
     let after = removed.table;
-    lines::put_removed(answer);
-    done(after)
+    lines::put_removed(out, answer)?;
+    Ok(done(after))
 }
 
-fn show_key(t: Table, body: &[u8]) -> Called {
+fn show_key(out: &mut impl Write, t: Table, body: &[u8]) -> io::Result<Called> {
     if body.len() > LONGEST_BODY {
-        return refuse(t);
+        return Ok(refuse(t));
     }
     let key = chip::show_key(body);
     let start = key.start;
     let end = key.end;
-    lines::put_key(&body[start..end]);
-    done(t)
+    lines::put_key(out, &body[start..end])?;
+    Ok(done(t))
 }
 
-fn zero_mic(t: Table, value: &[u8], second: &mut [u8]) -> Called
+fn zero_mic(out: &mut impl Write, t: Table, value: &[u8], second: &mut [u8]) -> io::Result<Called>
     requires { 65536 ≤ length second.old }
 {
     if value.len() < 2 {
-        return refuse(t);
+        return Ok(refuse(t));
     }
     if value.len() > 2 + LONGEST_BODY {
-        return refuse(t);
+        return Ok(refuse(t));
     }
     let room = octets::le2(value, 0);
     if room > LONGEST_BUFFER {
-        return refuse(t);
+        return Ok(refuse(t));
     }
     let n = room as usize;
     let body_length = value.len() - 2;
     let answer = chip::zero_mic(&value[2..], &mut second[0..n]);
-    lines::put_mic(b"zero ", answer, &second[0..body_length]);
-    done(t)
+    lines::put_mic(out, b"zero ", answer, &second[0..body_length])?;
+    Ok(done(t))
 }
 
-fn set_mic(t: Table, lent: u8, body: &mut [u8], mic: &[u8]) -> Called
+fn set_mic(
+    out: &mut impl Write,
+    t: Table,
+    lent: u8,
+    body: &mut [u8],
+    mic: &[u8],
+) -> io::Result<Called>
     requires { 255 ≤ length mic.now }
 {
     if body.len() > LONGEST_BODY {
-        return refuse(t);
+        return Ok(refuse(t));
     }
     let n = lent as usize;
     let answer = chip::set_mic(body, &mic[0..n]);
-    lines::put_mic(b"set ", answer, body);
-    done(t)
+    lines::put_mic(out, b"set ", answer, body)?;
+    Ok(done(t))
 }
 
-fn empty(t: Table, value: &[u8]) -> Called {
+fn empty(out: &mut impl Write, t: Table, value: &[u8]) -> io::Result<Called> {
     if value.len() != 0 {
-        return refuse(t);
+        return Ok(refuse(t));
     }
-    text::put(b"empty\n");
-    done(platform::empty())
+    text::put(out, b"empty\n")?;
+    Ok(done(platform::empty()))
 }
 
 pub fn call(
+    out: &mut impl Write,
     t: Table,
     s: Setup,
     tag: u8,
@@ -213,15 +226,15 @@ pub fn call(
     key: &[u8; LONGEST_LENT],
     mic: &[u8; LONGEST_LENT],
     buffer: &mut [u8; ANY],
-) -> Called {
+) -> io::Result<Called> {
     match tag {
-        16 => receive(t, s, value, cache, key, mic, buffer),
-        17 => look_up(t, value),
-        18 => remove(t, value),
-        19 => show_key(t, value),
-        20 => zero_mic(t, value, buffer),
-        21 => set_mic(t, s.mic, value, mic),
-        22 => empty(t, value),
-        _ => refuse(t),
+        16 => receive(out, t, s, value, cache, key, mic, buffer),
+        17 => look_up(out, t, value),
+        18 => remove(out, t, value),
+        19 => show_key(out, t, value),
+        20 => zero_mic(out, t, value, buffer),
+        21 => set_mic(out, t, s.mic, value, mic),
+        22 => empty(out, t, value),
+        _ => Ok(refuse(t)),
     }
 }

@@ -7,7 +7,7 @@ use native.Mathlib.Omega.{arith}
 use borrow.Author.Tests.{leb-true, le-leb, lt-leb, eqb-true, eq-eqb}
 use lib.Dec.{leb, eqb}
 use lib.ListN.{length, get_or}
-use Rattle.octets.specs.Choice.{if◌then◌else◌}
+use Rattle.std.specs.Prelude.{if◌then◌else◌}
 use Rattle.octets.specs.Numbers.{le}
 use Rattle.octets.proofs.Logic.{both}
 use Rattle.cache.specs.declared.Record.{Record}
@@ -63,7 +63,7 @@ module _ (file : List ℕ) (at : ℕ) where
       go true p = absurd (f (whole 0x31 25 file at p))
       go false p = simp (lt-leb (length file) at h, p)
 
-  ended_by : (a b : Bool) → (if a then End else if b then Stands (lying at) else Ill) ≡ End → a ≡ true
+  ended_by : (a b : Bool) → (if a then End else (if b then Stands (lying at) else Ill)) ≡ End → a ≡ true
   ended_by true b q = refl
   ended_by false true q = let z : ◌≡◌ {A = ℕ} 0 1 = cc in absurd (omega arith)
   ended_by false false q = let z : ◌≡◌ {A = ℕ} 0 1 = cc in absurd (omega arith)
@@ -71,7 +71,7 @@ module _ (file : List ℕ) (at : ℕ) where
   pub ended : read_at file at ≡ End → length file ≤ at
   ended q = leb-true (length file) at (ended_by (leb (length file) at) (is_record 0x31 25 file at) q)
 
-  stood_by : (a b : Bool) → is_record 0x31 25 file at ≡ b → {r : Record} → (if a then End else if b then Stands (lying at) else Ill) ≡ Stands r → Stood file at r
+  stood_by : (a b : Bool) → is_record 0x31 25 file at ≡ b → {r : Record} → (if a then End else (if b then Stands (lying at) else Ill)) ≡ Stands r → Stood file at r
   stood_by true b p q = let z : ◌≡◌ {A = ℕ} 0 1 = cc in absurd (omega arith)
   stood_by false true p q = record { is = whole 0x31 25 file at p; lies = cc }
   stood_by false false p q = let z : ◌≡◌ {A = ℕ} 0 1 = cc in absurd (omega arith)
@@ -90,8 +90,8 @@ module _ (file : List ℕ) (at : ℕ) where
   pub stands_so : stands (read_at file at) ≡ true → read_at file at ≡ Stands (lying at)
   stands_so e = go (leb (length file) at) (is_record 0x31 25 file at) e
     where
-      go : (a b : Bool) → stands (if a then End else if b then Stands (lying at) else Ill) ≡ true
-          → (if a then End else if b then Stands (lying at) else Ill) ≡ Stands (lying at)
+      go : (a b : Bool) → stands (if a then End else (if b then Stands (lying at) else Ill)) ≡ true
+          → (if a then End else (if b then Stands (lying at) else Ill)) ≡ Stands (lying at)
       go true b e = absurd (false≢true e)
       go false true e = refl
       go false false e = absurd (false≢true e)

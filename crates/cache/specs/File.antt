@@ -1,6 +1,5 @@
 -- The cache file: a string of records, each tag 31 hex, 2-octet length 25, then PMKID 16, AKM type 1, end 8 (TU).
-use Rattle.std.specs.Prelude.{Bool, true, false, ◌&&◌, List, [], ◌∷◌, ℕ, zero, suc, ◌+◌, ◌-◌, leb, eqb, length, get_or, take, drop}
-use Rattle.octets.specs.Choice.{if◌then◌else◌}
+use Rattle.std.specs.Prelude.{Bool, true, false, ◌&&◌, List, [], ◌∷◌, ℕ, zero, suc, ◌+◌, ◌-◌, leb, eqb, length, get_or, take, drop, if◌then◌else◌}
 use Rattle.octets.specs.Numbers.{le}
 use Rattle.cache.specs.declared.Read.{Read}
 use Rattle.cache.specs.declared.Read.TheVariants.{Stands, End, Ill}
@@ -13,8 +12,8 @@ is_record tag long file at = leb (3 + long) (length file - at) && (eqb (get_or f
 abbrev pub read_at : List ℕ → ℕ → Read
 read_at file at =
     if leb (length file) at then End
-    else if is_record 0x31 25 file at then Stands (record { value = at + 3; next = at + 28 })
-    else Ill
+    else (if is_record 0x31 25 file at then Stands (record { value = at + 3; next = at + 28 })
+    else Ill)
 
 abbrev pub stands : Read → Bool
 stands (Stands r) = true

@@ -1,7 +1,6 @@
 -- What the checks of a call tell.
-use Rattle.std.specs.Prelude.{not, List, ℕ}
+use Rattle.std.specs.Prelude.{not, List, ℕ, if◌then◌else◌}
 use Rattle.std.proofs.Math.Option.{Option, none, some}
-use Rattle.octets.specs.Choice.{if◌then◌else◌}
 use Rattle.units.specs.declared.Tu.{Tu}
 use Rattle.rules.specs.declared.Answer.{Answer}
 use Rattle.rules.specs.OnePeer.{clock_fits, is_group_address}
@@ -17,5 +16,5 @@ failure (Checked.Failed answer) = some answer
 unfoldable pub asked_of : Tu → Tu → List ℕ → Asked
 asked_of latest reading address =
     if not (clock_fits latest reading) then Asked.ClockOut
-    else if is_group_address address then Asked.GroupAddress
-    else Asked.Passed
+    else (if is_group_address address then Asked.GroupAddress
+    else Asked.Passed)

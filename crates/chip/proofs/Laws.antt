@@ -9,7 +9,7 @@ use lib.Dec.{eqb}
 use lib.ListN.{length, take, drop, replicate, length-append, length-replicate}
 use lib.Seq.{length-take-le, take-append-le, drop-append-le}
 use borrow.Rule.Slice.PartMut.{put_mid}
-use Rattle.octets.specs.Choice.{if◌then◌else◌}
+use Rattle.std.specs.Prelude.{if◌then◌else◌}
 use Rattle.octets.specs.Wrote.{Wrote}
 use Rattle.octets.proofs.Parts.{wrote_front, wrote_more}
 use Rattle.elements.specs.declared.Opened.{Opened}

@@ -8,7 +8,7 @@ use native.Mathlib.Omega.{arith}
 use borrow.Author.Tests.{leb-true}
 use lib.Dec.{eqb, leb}
 use lib.ListN.{length, drop}
-use Rattle.octets.specs.Choice.{if◌then◌else◌}
+use Rattle.std.specs.Prelude.{if◌then◌else◌}
 use Rattle.octets.specs.Equality.{same_octets}
 use Rattle.octets.proofs.Logic.{both}
 use Rattle.units.specs.declared.Tu.{Tu}
@@ -121,7 +121,7 @@ module _ {A : Type 0} (number : A → ℕ) (numbered : ℕ → A) (back : (a : A
   by_number {x} {y} e = sym (back x) ∙ ap numbered e ∙ back y
 
 removal_by : ℕ → Removal
-removal_by n = if eqb n 1 then Removal.ClockOut else if eqb n 4 then Removal.GroupAddress else if eqb n 17 then Removal.NoRecord else Removal.Removed
+removal_by n = if eqb n 1 then Removal.ClockOut else (if eqb n 4 then Removal.GroupAddress else (if eqb n 17 then Removal.NoRecord else Removal.Removed))
 
 removal_numbered : (a : Removal) → removal_by (removal_number a) ≡ a
 unfolding removal_by
@@ -131,7 +131,7 @@ removal_numbered Removal.NoRecord = refl
 removal_numbered Removal.Removed = refl
 
 look_by : ℕ → LookUp
-look_by n = if eqb n 1 then LookUp.ClockOut else if eqb n 4 then LookUp.GroupAddress else if eqb n 17 then LookUp.NoRecord else LookUp.Shown
+look_by n = if eqb n 1 then LookUp.ClockOut else (if eqb n 4 then LookUp.GroupAddress else (if eqb n 17 then LookUp.NoRecord else LookUp.Shown))
 
 look_numbered : (a : LookUp) → look_by (look_number a) ≡ a
 unfolding look_by
@@ -141,7 +141,7 @@ look_numbered LookUp.NoRecord = refl
 look_numbered LookUp.Shown = refl
 
 mic_by : ℕ → MicAnswer
-mic_by n = if eqb n 19 then MicAnswer.Done else if eqb n 2 then MicAnswer.BufferTooShort else MicAnswer.NoMic
+mic_by n = if eqb n 19 then MicAnswer.Done else (if eqb n 2 then MicAnswer.BufferTooShort else MicAnswer.NoMic)
 
 mic_numbered : (a : MicAnswer) → mic_by (mic_number a) ≡ a
 unfolding mic_by

@@ -6,7 +6,7 @@ use mathlib.Core.List.{List, ◌∷◌, Memᴰ}
 use mathlib.Core.Option.{Option, none, some}
 use native.Mathlib.Omega.{arith}
 use lib.ListN.{length}
-use Rattle.octets.specs.Choice.{if◌then◌else◌}
+use Rattle.std.specs.Prelude.{if◌then◌else◌}
 use Rattle.octets.specs.Equality.{same_octets}
 use Rattle.octets.proofs.Equality.{same_eq}
 use Rattle.units.specs.declared.Tu.{Tu}

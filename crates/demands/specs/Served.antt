@@ -1,8 +1,7 @@
 -- What a host asks of a unit, call by call, and every run that the unit's promises allow.
-use Rattle.std.specs.Prelude.{ℕ, ◌≤◌, ◌≡◌, length}
+use Rattle.std.specs.Prelude.{ℕ, ◌≤◌, ◌≡◌, length, if◌then◌else◌}
 use mathlib.Core.List.{List, [], ◌∷◌, Memᴰ}
 use Rattle.std.proofs.Math.Option.{Option, none, some}
-use Rattle.octets.specs.Choice.{if◌then◌else◌}
 use Rattle.octets.specs.Equality.{same_octets}
 use Rattle.octets.specs.Search.{Each}
 use Rattle.units.specs.declared.Tu.{Tu}

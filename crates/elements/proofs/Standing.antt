@@ -7,7 +7,7 @@ use native.Mathlib.Omega.{arith}
 use borrow.Author.Tests.{leb-true, leb-false, le-leb, lt-leb, le-ltb, eqb-true, eqb-false, ne_eqb, ltb-false}
 use lib.Dec.{ltb, leb, eqb}
 use lib.ListN.{length, get_or, length-append, get_or-append}
-use Rattle.octets.specs.Choice.{if◌then◌else◌}
+use Rattle.std.specs.Prelude.{if◌then◌else◌}
 use Rattle.elements.specs.declared.Extension.{Extension}
 use Rattle.elements.specs.declared.Extension.TheVariants.{Id, Absent}
 use Rattle.elements.specs.declared.Element.{Element}
@@ -48,7 +48,7 @@ stood s at e q =
     go : (b₁ : Bool) → leb (length s) at ≡ b₁ → (b₂ : Bool) → eqb (length s - at) 1 ≡ b₂
         → (b₃ : Bool) → ltb (length s - (at + 2)) (get_or s (at + 1) 0) ≡ b₃
         → (b₄ : Bool) → eqb (get_or s at 0) 255 && eqb (get_or s (at + 1) 0) 0 ≡ b₄
-        → (if b₁ then End else if b₂ then Failed else if b₃ then Failed else if b₄ then Failed else Stands (element_at s at)) ≡ Stands e
+        → (if b₁ then End else (if b₂ then Failed else (if b₃ then Failed else (if b₄ then Failed else Stands (element_at s at))))) ≡ Stands e
         → Stood s at e
     go true p₁ b₂ p₂ b₃ p₃ b₄ p₄ q = absurd (end_stands q)
     go false p₁ true p₂ b₃ p₃ b₄ p₄ q = absurd (failed_stands q)
@@ -94,7 +94,7 @@ ended s at q =
     (eqb (get_or s at 0) 255 && eqb (get_or s (at + 1) 0) 0) q
   where
     go : (b₁ : Bool) → leb (length s) at ≡ b₁ → (b₂ b₃ b₄ : Bool)
-        → (if b₁ then End else if b₂ then Failed else if b₃ then Failed else if b₄ then Failed else Stands (element_at s at)) ≡ End
+        → (if b₁ then End else (if b₂ then Failed else (if b₃ then Failed else (if b₄ then Failed else Stands (element_at s at))))) ≡ End
         → length s ≤ at
     go true p b₂ b₃ b₄ q = leb-true (length s) at p
     go false p true b₃ b₄ q = absurd (failed_end q)

@@ -6,7 +6,7 @@ use native.Mathlib.Omega.{arith}
 use lib.Dec.{eqb}
 use lib.ListN.{length, get_or, length-append}
 use lib.Seq.{get_or-append_seam, get_or-append-add}
-use Rattle.octets.specs.Choice.{if◌then◌else◌}
+use Rattle.std.specs.Prelude.{if◌then◌else◌}
 use Rattle.elements.specs.declared.Extension.TheVariants.{Id, Absent}
 use Rattle.elements.specs.declared.Element.{Element}
 use Rattle.elements.specs.declared.Part.{Part}

@@ -1,6 +1,5 @@
 -- An element: ID, length, content. For ID 255 the content's first octet is the extension ID.
-use Rattle.std.specs.Prelude.{ℕ, ◌+◌, ◌-◌, ◌&&◌, List, ltb, leb, eqb, length, get_or}
-use Rattle.octets.specs.Choice.{if◌then◌else◌}
+use Rattle.std.specs.Prelude.{ℕ, ◌+◌, ◌-◌, ◌&&◌, List, ltb, leb, eqb, length, get_or, if◌then◌else◌}
 use Rattle.elements.specs.declared.Extension.TheVariants.{Id, Absent}
 use Rattle.elements.specs.declared.Element.{Element}
 use Rattle.elements.specs.declared.Met.{Met}
@@ -21,7 +20,7 @@ element_at s at = record {
 abbrev pub met_at : List ℕ → ℕ → Met
 met_at s at =
     if leb (length s) at then End
-    else if eqb (length s - at) 1 then Failed
-    else if ltb (length s - (at + 2)) (get_or s (at + 1) 0) then Failed
-    else if eqb (get_or s at 0) 255 && eqb (get_or s (at + 1) 0) 0 then Failed
-    else Stands (element_at s at)
+    else (if eqb (length s - at) 1 then Failed
+    else (if ltb (length s - (at + 2)) (get_or s (at + 1) 0) then Failed
+    else (if eqb (get_or s at 0) 255 && eqb (get_or s (at + 1) 0) 0 then Failed
+    else Stands (element_at s at))))

@@ -1,6 +1,5 @@
 -- The walk over the elements of a body.
-use Rattle.std.specs.Prelude.{ℕ, zero, suc, List, [], ◌∷◌, ◌++◌, ltb, length}
-use Rattle.octets.specs.Choice.{if◌then◌else◌}
+use Rattle.std.specs.Prelude.{ℕ, zero, suc, List, [], ◌∷◌, ◌++◌, ltb, length, if◌then◌else◌}
 use Rattle.elements.specs.declared.Element.{Element}
 use Rattle.elements.specs.declared.Met.{Met}
 use Rattle.elements.specs.declared.Met.TheVariants.{Stands, End, Failed}
@@ -38,5 +37,5 @@ unfoldable pub walk_body : List ℕ → Walk
 unfolding walk
 walk_body s =
     if ltb (length s) 6 then failed_at 0
-    else if ltb 1024 (length s) then failed_at 0
-    else walk s 6
+    else (if ltb 1024 (length s) then failed_at 0
+    else walk s 6)

@@ -1,18 +1,17 @@
 -- The three laws of a search from the front: at i, where nothing before i passes.
 use Prim.Native.Nat.{ℕ, ◌+◌, ◌≤◌, ◌<◌}
 use mathlib.Core.Path.{◌≡◌, refl, sym, ap, ◌∙◌}
-use mathlib.Core.Bool.{Bool, true, false, ◌&&◌, false≢true}
+use mathlib.Core.Bool.{Bool, true, false, ◌&&◌, false≢true, cond}
 use mathlib.Core.List.{List, [], ◌∷◌}
 use mathlib.Core.Option.{none, some, some-injective, none-ne-some}
 use native.Mathlib.Numerals.{add-one}
 use lib.ListN.{length, get_or, drop, drop_of_length-le}
 use lib.Seq.{drop-cons}
-use Rattle.octets.specs.Choice.{if◌then◌else◌}
 use Rattle.octets.specs.Search.{first, every}
 
 module _ {ℓ} {A : Type ℓ} (f : A → Bool) (xs : List A) (i : ℕ) (d : A) where
   module _ (h : i < length xs) where
-    first_step : first f (drop i xs) ≡ (if f (get_or xs i d) then some (get_or xs i d) else first f (drop (i + 1) xs))
+    first_step : first f (drop i xs) ≡ cond (f (get_or xs i d)) (some (get_or xs i d)) (first f (drop (i + 1) xs))
     unfolding first
     first_step = rw (add-one, drop-cons xs i d h)
 
@@ -33,7 +32,7 @@ first_found f g [] x t e = absurd (none-ne-some x e)
 first_found f g (y ∷ ys) x t e = go (first_found f g ys x) (f y) refl (g y) refl t e
   where
     go : (every g ys ≡ true → first f ys ≡ some x → (f x ≡ true) × (g x ≡ true)) → (a : Bool) → f y ≡ a → (b : Bool) → g y ≡ b
-        → b && every g ys ≡ true → (if a then some y else first f ys) ≡ some x → (f x ≡ true) × (g x ≡ true)
+        → b && every g ys ≡ true → cond a (some y) (first f ys) ≡ some x → (f x ≡ true) × (g x ≡ true)
     go ih true p true q t e =
         let s : y ≡ x = some-injective y x e in
         (ap f (sym s) ∙ p, ap g (sym s) ∙ q)

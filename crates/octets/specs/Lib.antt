@@ -1,4 +1,3 @@
-pub mod Choice
 pub mod Maybe
 pub mod Numbers
 pub mod Pieces

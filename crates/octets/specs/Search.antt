@@ -1,13 +1,12 @@
 -- Searches of a list.
-use Rattle.std.specs.Prelude.{Bool, true, ◌&&◌, List, [], ◌∷◌}
+use Rattle.std.specs.Prelude.{Bool, true, ◌&&◌, List, [], ◌∷◌, cond}
 use Rattle.std.proofs.Math.Option.{Option, none, some}
-use Rattle.octets.specs.Choice.{if◌then◌else◌}
 
 module _ {ℓ} {A : Type ℓ} where
   -- the first that passes a test
   unfoldable pub first : (A → Bool) → List A → Option A
   first f [] = none
-  first f (x ∷ xs) = if f x then some x else first f xs
+  first f (x ∷ xs) = cond (f x) (some x) (first f xs)
 
   -- whether each passes a test
   abbrev pub every : (A → Bool) → List A → Bool

@@ -1,9 +1,8 @@
 -- PASN Parameters after the extension ID: control (B0 comeback, B1 group and key, the rest ignored on reading and written 0), wrapped format, with B0
 -- Comeback After (2 octets from an access point, none from a station), a cookie length octet and the cookie, with B1 group (2), key length (1), key.
 -- No octets beyond.
-use Rattle.std.specs.Prelude.{ℕ, ◌+◌, ◌-◌, ◌*◌, ◌/◌, ◌%◌, ◌≤◌, not, List, [], ◌∷◌, ◌++◌, leb, ltb, eqb, length, get_or}
+use Rattle.std.specs.Prelude.{ℕ, ◌+◌, ◌-◌, ◌*◌, ◌/◌, ◌%◌, ◌≤◌, not, List, [], ◌∷◌, ◌++◌, leb, ltb, eqb, length, get_or, if◌then◌else◌}
 use Rattle.std.proofs.Math.Option.{Option, none, some}
-use Rattle.octets.specs.Choice.{if◌then◌else◌}
 use Rattle.octets.specs.Numbers.{le, octets}
 use Rattle.elements.specs.declared.Part.{Part}
 use Rattle.parameters.specs.declared.Side.{Side}
@@ -29,9 +28,9 @@ offer_from s at comeback =
     if eqb (bit1 s) 0 then
     (if not (eqb (length s) at) then Ill
     else Is (record { comeback = comeback; format = get_or s 1 0; offer = Offer.Absent }))
-    else if ltb (length s - at) 3 then Ill
-    else if not (eqb (length s - (at + 3)) (get_or s (at + 2) 0)) then Ill
-    else Is (record { comeback = comeback; format = get_or s 1 0; offer = Offer.Key (le 2 s at) (record { start = at + 3; end = length s }) })
+    else (if ltb (length s - at) 3 then Ill
+    else (if not (eqb (length s - (at + 3)) (get_or s (at + 2) 0)) then Ill
+    else Is (record { comeback = comeback; format = get_or s 1 0; offer = Offer.Key (le 2 s at) (record { start = at + 3; end = length s }) })))
 
 -- the octets of Comeback After
 abbrev pub after_width : Side → ℕ
@@ -48,16 +47,16 @@ unfoldable pub comeback_from : Side → List ℕ → ℕ → Reading
 unfolding offer_from
 comeback_from side s at =
     if leb (length s) at then Ill
-    else if ltb (length s - (at + 1)) (get_or s at 0) then Ill
-    else offer_from s (at + 1 + get_or s at 0) (comeback_of side s (record { start = at + 1; end = at + 1 + get_or s at 0 }))
+    else (if ltb (length s - (at + 1)) (get_or s at 0) then Ill
+    else offer_from s (at + 1 + get_or s at 0) (comeback_of side s (record { start = at + 1; end = at + 1 + get_or s at 0 })))
 
 -- by who wrote them
 unfoldable pub parameters_of : Side → List ℕ → Reading
 unfolding comeback_from
 parameters_of side s =
     if ltb (length s) 2 then Ill
-    else if eqb (bit0 s) 0 then offer_from s 2 Comeback.Absent
-    else comeback_from side s (2 + after_width side)
+    else (if eqb (bit0 s) 0 then offer_from s 2 Comeback.Absent
+    else comeback_from side s (2 + after_width side))
 
 -- What comes with B0, octets and all: from a station a cookie, from an access point Comeback After and a cookie.
 abbrev pub WithB0 : Side → Type 0

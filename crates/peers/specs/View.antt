@@ -1,7 +1,6 @@
 -- What a table shows at a clock reading: which records are live, and never where they stand.
-use Rattle.std.specs.Prelude.{ℕ, ◌+◌, Bool, true, false, ◌&&◌, not, List, [], ◌∷◌, eqb, ltb, replicate}
+use Rattle.std.specs.Prelude.{ℕ, ◌+◌, Bool, true, false, ◌&&◌, not, List, [], ◌∷◌, eqb, ltb, replicate, if◌then◌else◌}
 use Rattle.std.proofs.Math.Option.{Option, none, some}
-use Rattle.octets.specs.Choice.{if◌then◌else◌}
 use Rattle.octets.specs.Equality.{same_octets}
 use Rattle.octets.specs.Search.{first, every}
 use Rattle.units.specs.declared.Tu.{Tu}

@@ -1,6 +1,5 @@
 -- A record in octets, numbers low octet first: which record any octets are, and the octets that tell a record.
-use Rattle.std.specs.Prelude.{ℕ, ◌+◌, ◌^◌, ◌<◌, ◌≡◌, Bool, not, List, [], ◌∷◌, ◌++◌, eqb, length, get_or, take, drop}
-use Rattle.octets.specs.Choice.{if◌then◌else◌}
+use Rattle.std.specs.Prelude.{ℕ, ◌+◌, ◌^◌, ◌<◌, ◌≡◌, Bool, not, List, [], ◌∷◌, ◌++◌, eqb, length, get_or, take, drop, if◌then◌else◌}
 use Rattle.octets.specs.Numbers.{le, octets}
 use Rattle.octets.specs.Wrote.{Wrote}
 use Rattle.peers.specs.declared.Peer.{Peer}

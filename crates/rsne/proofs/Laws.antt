@@ -8,7 +8,7 @@ use borrow.Author.Tests.{eq-eqb, ne_eqb, eqb-true, not-false}
 use lib.Dec.{eqb}
 use lib.ListN.{length, take, drop, length-append}
 use lib.Seq.{take-append_seam}
-use Rattle.octets.specs.Choice.{if◌then◌else◌}
+use Rattle.std.specs.Prelude.{if◌then◌else◌}
 use Rattle.octets.specs.Numbers.{le, octets}
 use Rattle.octets.proofs.Numbers.{le_octets}
 use Rattle.elements.specs.declared.Part.{Part}

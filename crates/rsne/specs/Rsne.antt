@@ -1,7 +1,6 @@
 -- RSNE: version 1 (2 octets), group cipher 4, pairwise count 2 and m suites, AKM count 2 and a suites, capabilities 2, PMKID count 2 and p PMKIDs of 16,
 -- group management cipher 4. Its length is exactly 18 + 4m + 4a + 16p; another version or length is ill-formed.
-use Rattle.std.specs.Prelude.{ℕ, ◌+◌, ◌-◌, ◌*◌, ◌/◌, not, List, [], ◌∷◌, ◌++◌, eqb, length}
-use Rattle.octets.specs.Choice.{if◌then◌else◌}
+use Rattle.std.specs.Prelude.{ℕ, ◌+◌, ◌-◌, ◌*◌, ◌/◌, not, List, [], ◌∷◌, ◌++◌, eqb, length, if◌then◌else◌}
 use Rattle.octets.specs.Numbers.{le, octets}
 use Rattle.suites.specs.Suite.{suite_at, suite_octets}
 use Rattle.rsne.specs.declared.Only.{Only}

@@ -7,7 +7,7 @@ use Prim.Native.Nat.{ℕ, ◌*◌, ◌/◌, ◌^◌, ◌<◌}
 use native.Mathlib.Omega.{arith}
 use lib.Dec.{eqb}
 use lib.ListN.{length, drop, length-take, length-drop}
-use Rattle.octets.specs.Choice.{if◌then◌else◌}
+use Rattle.std.specs.Prelude.{if◌then◌else◌}
 use Rattle.octets.specs.Pieces.{pieces}
 use Rattle.units.specs.declared.Tu.{Tu}
 use Rattle.suites.specs.declared.Akm.{Akm}
@@ -120,7 +120,7 @@ sixteen akm cache reading s {pmkid} e = by_akm akm.pmk e
     by_choice Choice.Nothing c e = absurd (refuse_pass e)
 
     by_akm : (b : Bool)
-        → (if b then pmkid_chosen (pieces 16 (length s / 16) s) (choice_of (records_of cache) (pieces 16 (length s / 16) s) akm.kind reading) else if eqb (length s) 0 then pass none else refuse Refusal.Pmkid)
+        → (if b then pmkid_chosen (pieces 16 (length s / 16) s) (choice_of (records_of cache) (pieces 16 (length s / 16) s) akm.kind reading) else (if eqb (length s) 0 then pass none else refuse Refusal.Pmkid))
         ≡ pass pmkid
         → Sixteen pmkid
     by_akm true e = by_choice (choice_of (records_of cache) (pieces 16 (length s / 16) s) akm.kind reading) refl e

@@ -1,7 +1,6 @@
 -- One peer alone: what its calls get, one after another, and what they leave of its record, by the one-peer rules.
-use Rattle.std.specs.Prelude.{ℕ, false, List, [], ◌∷◌, ◌++◌, eqb, length, drop}
+use Rattle.std.specs.Prelude.{ℕ, false, List, [], ◌∷◌, ◌++◌, eqb, length, drop, if◌then◌else◌}
 use Rattle.std.proofs.Math.Option.{Option, none, some}
-use Rattle.octets.specs.Choice.{if◌then◌else◌}
 use Rattle.units.specs.declared.Tu.{Tu}
 use Rattle.peers.specs.declared.Peer.{Peer}
 use Rattle.peers.specs.Promises.{while_live}

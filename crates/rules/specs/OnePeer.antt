@@ -1,7 +1,6 @@
 -- The one-peer rules: what a call gets, by what it brings, this peer's live record or none, and whether sixteen others are live.
-use Rattle.std.specs.Prelude.{ℕ, ◌+◌, ◌/◌, ◌%◌, min, Bool, true, false, ◌&&◌, ◌||◌, not, List, [], eqb, ltb, leb, length, get_or, replicate}
+use Rattle.std.specs.Prelude.{ℕ, ◌+◌, ◌/◌, ◌%◌, min, Bool, true, false, ◌&&◌, ◌||◌, not, List, [], eqb, ltb, leb, length, get_or, replicate, if◌then◌else◌}
 use Rattle.std.proofs.Math.Option.{Option, none, some}
-use Rattle.octets.specs.Choice.{if◌then◌else◌}
 use Rattle.octets.specs.Equality.{same_octets}
 use Rattle.octets.specs.Pieces.{pieces}
 use Rattle.units.specs.declared.Seconds.{Seconds}
@@ -272,8 +271,8 @@ pmkid_chosen pmkids Choice.Nothing = refuse Refusal.Pmkid
 abbrev pub step10 : Akm → List ℕ → Tu → List ℕ → Step (Option (List ℕ))
 step10 akm cache reading pmkids =
     if akm.pmk then pmkid_chosen (pieces 16 (length pmkids / 16) pmkids) (choice_of (records_of cache) (pieces 16 (length pmkids / 16) pmkids) akm.kind reading)
-    else if eqb (length pmkids) 0 then pass none
-    else refuse Refusal.Pmkid
+    else (if eqb (length pmkids) 0 then pass none
+    else refuse Refusal.Pmkid)
 
 -- 11. 30: no live record of this address, and 16 live records of others
 abbrev pub step11 : Bool → Step Bool
@@ -399,8 +398,8 @@ abbrev pub third_frame : Tu → List ℕ → List ℕ → ℕ → Option Peer �
 third_frame reading mic body status none = unchanged Answer.NoExchange
 third_frame reading mic body status (some p) =
     if not (is_waiting p.phase) then unchanged Answer.NoExchange
-    else if not (eqb status 0) then lost Answer.StatusNotZero
-    else third_akm reading mic body p (akm_of p.agreed.akm)
+    else (if not (eqb status 0) then lost Answer.StatusNotZero
+    else third_akm reading mic body p (akm_of p.agreed.akm))
 
 -- Receive, in the order of its checks ---------------------------------------------------------------------------------------------------
 
@@ -423,18 +422,18 @@ is_group_address address = eqb (get_or address 0 0 % 2) 1
 unfoldable pub checks : Tu → Brought → List ℕ → ℕ → Option Answer
 checks latest brought cache room =
     if not (clock_fits latest brought.reading) then some Answer.ClockOut
-    else if ltb room smallest_buffer then some Answer.BufferShort
-    else if not (settings_fit brought.settings) then some Answer.SettingsOut
-    else if is_group_address brought.address then some Answer.GroupAddress
-    else if not (is_well_formed cache) then some Answer.CacheIll
-    else none
+    else (if ltb room smallest_buffer then some Answer.BufferShort
+    else (if not (settings_fit brought.settings) then some Answer.SettingsOut
+    else (if is_group_address brought.address then some Answer.GroupAddress
+    else (if not (is_well_formed cache) then some Answer.CacheIll
+    else none))))
 
 abbrev pub by_transaction : Call → Header → Bool → Option Peer → Outcome
 by_transaction call header full own =
     if not (eqb header.algorithm 7) then record { answer = Answer.Algorithm; reply = []; leaves = gone_if (waits own) }
-    else if eqb header.transaction 1 then first_frame call.brought call.cache call.key call.body header.algorithm full own
-    else if eqb header.transaction 3 then third_frame call.brought.reading call.mic call.body header.status own
-    else unchanged Answer.Transaction
+    else (if eqb header.transaction 1 then first_frame call.brought call.cache call.key call.body header.algorithm full own
+    else (if eqb header.transaction 3 then third_frame call.brought.reading call.mic call.body header.status own
+    else unchanged Answer.Transaction))
 
 abbrev pub on_body : Call → Opened → Bool → Option Peer → Outcome
 on_body call (Opened.Body header) full own = by_transaction call header full own
@@ -457,8 +456,8 @@ receive_of latest full own call =
 abbrev pub asked : Tu → Tu → List ℕ → ℕ → ℕ
 asked latest reading address number =
     if not (clock_fits latest reading) then 1
-    else if is_group_address address then 4
-    else number
+    else (if is_group_address address then 4
+    else number)
 
 abbrev pub removal_number : Removal → ℕ
 removal_number Removal.ClockOut = 1

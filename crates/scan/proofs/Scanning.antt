@@ -7,7 +7,7 @@ use native.Mathlib.Omega.{arith}
 use borrow.Author.Tests.{le-ltb, eqb-true}
 use lib.Dec.{ltb, eqb}
 use lib.ListN.{length, get_or}
-use Rattle.octets.specs.Choice.{if◌then◌else◌}
+use Rattle.std.specs.Prelude.{if◌then◌else◌}
 use Rattle.elements.specs.declared.Extension.{Extension}
 use Rattle.elements.specs.declared.Extension.TheVariants.{Absent}
 use Rattle.elements.specs.declared.Element.{Element}
@@ -98,12 +98,12 @@ in_body s h k = rw (le-ltb (length s) 6 h, le-ltb 1024 (length s) k)
 
 -- the fewest octets that an element's content has, by its kind
 abbrev fewest : ℕ → ℕ
-fewest n = if eqb n (kind_number Parameters) then 1 else if eqb n (kind_number Wrapped) then 1 else 0
+fewest n = if eqb n (kind_number Parameters) then 1 else (if eqb n (kind_number Wrapped) then 1 else 0)
 
 plain_fewest : (id : ℕ) → fewest (kind_number (plain_kind id)) ≡ 0
 plain_fewest id = go (eqb id 48) (eqb id 56) (eqb id 140) (eqb id 242)
   where
-    go : (a b c d : Bool) → fewest (kind_number (if a then Rsne else if b then Timeout else if c then Mic else if d then Fragment else Skipped)) ≡ 0
+    go : (a b c d : Bool) → fewest (kind_number (if a then Rsne else (if b then Timeout else (if c then Mic else (if d then Fragment else Skipped))))) ≡ 0
     go true b c d = refl
     go false true c d = refl
     go false false true d = refl
@@ -113,7 +113,7 @@ plain_fewest id = go (eqb id 48) (eqb id 56) (eqb id 140) (eqb id 242)
 fewest_one : (n : ℕ) → fewest n ≤ 1
 fewest_one n = go (eqb n (kind_number Parameters)) (eqb n (kind_number Wrapped))
   where
-    go : (a b : Bool) → (if a then 1 else if b then 1 else 0) ≤ 1
+    go : (a b : Bool) → (if a then 1 else (if b then 1 else 0)) ≤ 1
     go true b = omega arith
     go false true = omega arith
     go false false = omega arith
@@ -172,7 +172,7 @@ unfolding scan_of walk_body
 within s p q = go (ltb (length s) 6) (ltb 1024 (length s)) (walk s 6) (each_stood s 6) q
   where
     go : (a b : Bool) (w : Walk) → EachOf (λ e. Stood s e.place e) w
-        → scan_by (if a then failed_at 0 else if b then failed_at 0 else w) ≡ Scan.Walked p → Within (length s) p
+        → scan_by (if a then failed_at 0 else (if b then failed_at 0 else w)) ≡ Scan.Walked p → Within (length s) p
     go true b w h q = absurd (failed_walked q)
     go false true w h q = absurd (failed_walked q)
     go false false (walked es) h q = subst (Within (length s)) (walked_same q) (within_walk s es h)

@@ -8,7 +8,7 @@ use native.Mathlib.Omega.{arith}
 use borrow.Author.Tests.{eqb-true, eq-eqb}
 use lib.Dec.{ltb, eqb}
 use lib.ListN.{length, get_or}
-use Rattle.octets.specs.Choice.{if◌then◌else◌}
+use Rattle.std.specs.Prelude.{if◌then◌else◌}
 use Rattle.octets.specs.Numbers.{le}
 use Rattle.octets.proofs.Numbers.{le_ext}
 use Rattle.elements.specs.declared.Extension.{Extension}
@@ -128,7 +128,7 @@ pub same_read : (p : Part) (s t : List ℕ) → SameBut p s t → SomeOf (Inside
 unfolding body_of walk_body scan_of
 same_read p s t b h = read (body (ltb (length s) 6) (ltb 1024 (length s)) h)
   where
-    body : (c d : Bool) → SomeOf (Inside p) (if c then failed_at 0 else if d then failed_at 0 else walk s 6) → Passed p t 6 (walk s 6)
+    body : (c d : Bool) → SomeOf (Inside p) (if c then failed_at 0 else (if d then failed_at 0 else walk s 6)) → Passed p t 6 (walk s 6)
     body true d h = absurd h
     body false true h = absurd h
     body false false h = passed p s t b 6 h
@@ -148,7 +148,7 @@ InsideIf w (More p) = SomeOf (Inside p) w
 extended_number : (x : ℕ) → 4 ≤ kind_number (extended_kind x)
 extended_number x = go (eqb x 100) (eqb x 8)
   where
-    go : (a b : Bool) → 4 ≤ kind_number (if a then Parameters else if b then Wrapped else Skipped)
+    go : (a b : Bool) → 4 ≤ kind_number (if a then Parameters else (if b then Wrapped else Skipped))
     go true b = omega arith
     go false true = omega arith
     go false false = omega arith
@@ -197,7 +197,7 @@ mic_inside s p q = subst (MicInside (walk_body s)) q (go (ltb (length s) 6) (ltb
     found (failed_at place) h = tt
 
     go : (a b : Bool) (w : Walk) → EachOf (λ e. Stood s e.place e) w
-        → MicInside (if a then failed_at 0 else if b then failed_at 0 else w) (scan_by (if a then failed_at 0 else if b then failed_at 0 else w))
+        → MicInside (if a then failed_at 0 else (if b then failed_at 0 else w)) (scan_by (if a then failed_at 0 else (if b then failed_at 0 else w)))
     go true b w h = tt
     go false true w h = tt
     go false false w h = found w h

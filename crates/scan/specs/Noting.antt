@@ -1,5 +1,5 @@
 -- What the scan does at one element.
-use Rattle.octets.specs.Choice.{if◌then◌else◌}
+use Rattle.std.specs.Prelude.{if◌then◌else◌}
 use Rattle.scan.specs.declared.Kind.{Kind}
 use Rattle.elements.specs.declared.Part.{Part}
 use Rattle.scan.specs.declared.Times.{Times}

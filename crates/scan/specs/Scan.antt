@@ -1,6 +1,5 @@
 -- The elements that the rules speak of: how many of each there are, and where the first stands.
-use Rattle.std.specs.Prelude.{ℕ, Bool, List, [], ◌∷◌, eqb}
-use Rattle.octets.specs.Choice.{if◌then◌else◌}
+use Rattle.std.specs.Prelude.{ℕ, Bool, List, [], ◌∷◌, eqb, if◌then◌else◌}
 use Rattle.elements.specs.declared.Extension.{Extension}
 use Rattle.elements.specs.declared.Extension.TheVariants.{Id, Absent}
 use Rattle.elements.specs.declared.Element.{Element}
@@ -17,17 +16,17 @@ use Rattle.elements.specs.Walk.{Walk, walked, failed_at, walk_body}
 abbrev pub plain_kind : ℕ → Kind
 plain_kind id =
     if eqb id 48 then Rsne
-    else if eqb id 56 then Timeout
-    else if eqb id 140 then Mic
-    else if eqb id 242 then Fragment
-    else Skipped
+    else (if eqb id 56 then Timeout
+    else (if eqb id 140 then Mic
+    else (if eqb id 242 then Fragment
+    else Skipped)))
 
 -- PASN Parameters 255/100, Wrapped Data 255/8
 abbrev pub extended_kind : ℕ → Kind
 extended_kind extension =
     if eqb extension 100 then Parameters
-    else if eqb extension 8 then Wrapped
-    else Skipped
+    else (if eqb extension 8 then Wrapped
+    else Skipped)
 
 abbrev pub kind_by : ℕ → Extension → Kind
 kind_by id (Id extension) = extended_kind extension

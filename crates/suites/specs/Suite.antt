@@ -1,6 +1,5 @@
 -- A suite is four octets, a selector and a type. It counts only if its first three octets are 00 0F AC; any other is in no table.
-use Rattle.std.specs.Prelude.{ℕ, ◌+◌, List, [], ◌∷◌, ◌++◌, eqb, get_or}
-use Rattle.octets.specs.Choice.{if◌then◌else◌}
+use Rattle.std.specs.Prelude.{ℕ, ◌+◌, List, [], ◌∷◌, ◌++◌, eqb, get_or, if◌then◌else◌}
 use Rattle.suites.specs.declared.Suite.{Suite}
 use Rattle.suites.specs.declared.Suite.TheVariants.{Ours, Other}
 

@@ -1,5 +1,5 @@
 use Prim.Native.Nat.{◌-◌}
-use Rattle.octets.specs.Choice.{if◌then◌else◌}
+use Rattle.std.specs.Prelude.{if◌then◌else◌}
 use Rattle.peers.specs.View.{vacant_peer}
 use Rattle.peers.proofs.Filling.{Filling}
 use Rattle.peers.proofs.Promised.{taken}

@@ -81,6 +81,14 @@ length_with_key side format group key =
     let said : Said side = record { comeback = none; format = format; offer = some (group, key) } in
     omega (arith, length_parameters side said, length_content side said)
 
+-- with Comeback After and a cookie and nothing else
+pub length_come_back : (format after : ℕ) (cookie : List ℕ)
+    → length (parameters_octets AccessPoint (record { comeback = some (after, cookie); format = format; offer = none })) ≡ length cookie + parameters_size
+unfolding octets
+length_come_back format after cookie =
+    let said : Said AccessPoint = record { comeback = some (after, cookie); format = format; offer = none } in
+    omega (arith, length_parameters AccessPoint said, length_content AccessPoint said)
+
 -- Each part of what was read lies in a content of n octets.
 abbrev pub ComebackLies : ℕ → Comeback → Type 0
 ComebackLies n (Comeback.Cookie cookie) = Lies 0 n cookie

@@ -37,7 +37,7 @@ use Rattle.writers.proofs.header.Laws.{length_header, header_reads_back}
 use Rattle.writers.proofs.second.Laws.{length_second}
 
 -- the octets of an element in a string, from the k-th on
-part_content : (s before w after : List ℕ) (k : ℕ) (p : Part) → s ≡ before ++ w ++ after
+pub part_content : (s before w after : List ℕ) (k : ℕ) (p : Part) → s ≡ before ++ w ++ after
     → (k ≤ length w) × (p.start ≡ length before + k) × (p.end ≡ length before + length w) → content s p ≡ drop k w
 part_content s before w after k p is (h, a, b) =
     rw (is, a, b, append_assoc, drop-append-add, drop-append-le) (take_at (drop k w) after (length before + length w - (length before + k)) (omega (arith, length-drop k w)))

@@ -1,0 +1,51 @@
+-- Comeback information as its reader takes it, by the layouts of every frame. None unless the string is a body that walks to its end, with no Fragment, and
+-- has PASN Parameters exactly once: well-formed, B0 set, B1 clear, format 0, and a cookie of at most 32 octets. Other elements are not looked at.
+use Rattle.std.specs.Prelude.{◌≡◌, ℕ, ◌≤◌, List, eqb, leb, length}
+use Rattle.std.proofs.Math.Option.{Option, none, some}
+use Rattle.octets.specs.Maybe.{◌>>=◌}
+use Rattle.elements.specs.declared.Part.{Part}
+use Rattle.elements.specs.Body.{body_of}
+use Rattle.scan.specs.Scan.{scan_of}
+use Rattle.parameters.specs.declared.Comeback.{Comeback}
+use Rattle.parameters.specs.declared.Side.TheVariants.{AccessPoint}
+use Rattle.parameters.specs.Parameters.{parameters_of}
+use Rattle.frames.specs.Contents.{content, extended, holds, is_walked, once, never, is_parameters, no_key}
+use Rattle.writers.specs.SecondRead.{is_body}
+
+-- the cookie is its octets
+pub record ComebackRead : Type 0 where
+  pub algorithm : ℕ
+  pub transaction : ℕ
+  pub status : ℕ
+  pub after : ℕ
+  pub cookie : List ℕ
+
+-- B0 set: Comeback After and a cookie
+abbrev pub is_after : Comeback → Option (ℕ × Part)
+is_after (Comeback.After after cookie) = some (after, cookie)
+is_after (Comeback.Cookie cookie) = none
+is_after Comeback.Absent = none
+
+unfoldable pub comeback_in : List ℕ → Option ComebackRead
+comeback_in body = do
+  header ← is_body (body_of body)
+  places ← is_walked (scan_of body)
+  _ ← never places.fragment
+  at_parameters ← once places.parameters
+  parameters ← is_parameters (parameters_of AccessPoint (content body (extended at_parameters)))
+  (after, cookie) ← is_after parameters.comeback
+  _ ← no_key parameters.offer
+  _ ← holds (eqb parameters.format 0)
+  _ ← holds (leb (length (content (content body (extended at_parameters)) cookie)) 32)
+  some (record {
+    algorithm = header.algorithm;
+    transaction = header.transaction;
+    status = header.status;
+    after = after;
+    cookie = content (content body (extended at_parameters)) cookie;
+  })
+
+-- a reply whose cookie its reader takes, read back, shows what was put
+abbrev pub ReadsBack : ℕ → ℕ → ℕ → List ℕ → List ℕ → Type 0
+ReadsBack algorithm status after cookie reply = length cookie ≤ 32
+    → comeback_in reply ≡ some (record { algorithm = algorithm; transaction = 2; status = status; after = after; cookie = cookie })

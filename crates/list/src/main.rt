@@ -6,7 +6,7 @@ ghost use Rattle.std.specs.Io.KnownBytes.{Consumes, IsAtEnd};
 
 use elements::{Element, Extension, Header, LONGEST_BODY, Met, Opened};
 use std::io;
-use std::io::{BufWriter, Read, Write};
+use std::io::{Read, Write};
 
 // Reads until the buffer is full or the input ends, and says how many octets came.
 fn read_full<R: Read>(input: &mut R, buffer: &mut [u8]) -> io::Result<usize>
@@ -93,7 +93,5 @@ fn main(rt: HostRuntime) -> io::Result<()> {
     // One octet more than the longest body, so that a longer input is known for one.
     let mut input = [0u8; LONGEST_BODY + 1];
     let n = read_full(&mut rt.stdin(), &mut input)?;
-    let mut out = BufWriter::new(rt.alloc(), rt.stdout())?;
-    list_body(&mut out, &input[..n])?;
-    out.flush()
+    list_body(&mut rt.stdout(), &input[..n])
 }

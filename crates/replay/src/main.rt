@@ -12,7 +12,7 @@ ghost use Rattle.std.specs.Io.KnownBytes.{Consumes, IsAtEnd};
 use peers::Table;
 use setup::{ANY, LONGEST_LENT, Setup};
 use std::io;
-use std::io::{BufWriter, Read, Write};
+use std::io::{Read, Write};
 
 #[derive(Clone, Copy)]
 enum Going {
@@ -225,7 +225,7 @@ fn put_last(out: &mut impl Write, s: State) -> io::Result<()> {
 
 fn main(rt: HostRuntime) -> io::Result<()> {
     let mut input = rt.stdin();
-    let mut out = BufWriter::new(rt.alloc(), rt.stdout())?;
+    let mut out = rt.stdout();
     let mut value = [0u8; ANY];
     let mut cache = [0u8; ANY];
     let mut key = [0u8; LONGEST_LENT];
@@ -253,6 +253,5 @@ fn main(rt: HostRuntime) -> io::Result<()> {
         )?;
         records -= 1;
     }
-    put_last(&mut out, s)?;
-    out.flush()
+    put_last(&mut out, s)
 }

@@ -16,26 +16,21 @@ pub matches-requires : goal.matches-requires
 matches-requires c = (searched_goes c.loop-at.invariant c.record_at-record.ensures).value
 
 pub end_at-requires : goal.end_at-requires
-end_at-requires c = let p = c in (searched_goes p.loop-at.invariant p.record_at-record.ensures).value
+end_at-requires c = (searched_goes c.loop-at.invariant c.record_at-record.ensures).value
 
 pub returns-then-matches : goal.returns-then-matches
 unfolding found_of
 returns-then-matches c =
-    let m = c in
-    let p = m in
-    sym (ap told (searched_stops p.loop-at.invariant p.record_at-record.ensures m.matches.ensures c.if-matches.true)
+    sym (ap told (searched_stops c.loop-at.invariant c.record_at-record.ensures c.matches.ensures c.if-matches.true)
     ∙ ap (λ (n : ℕ). Match.Until (record { 0 = n })) (sym c.end_at.ensures))
 
 pub loop-at-smaller : goal.loop-at-smaller
 loop-at-smaller c =
-    let p = c in
-    let w = searched_goes p.loop-at.invariant p.record_at-record.ensures in
+    let w = searched_goes c.loop-at.invariant c.record_at-record.ensures in
     omega (arith, w.ahead, w.next)
 
 pub loop-at-preserved : goal.loop-at-preserved
-loop-at-preserved c =
-    let p = c in
-    searched_more p.loop-at.invariant p.record_at-record.ensures c.matches.ensures c.if-matches.false
+loop-at-preserved c = searched_more c.loop-at.invariant c.record_at-record.ensures c.matches.ensures c.if-matches.false
 
 pub returns : goal.returns
 unfolding found_of

@@ -14,21 +14,14 @@ overflow_add-count c = let g = c.loop-record.invariant in omega (arith, g.counte
 
 pub loop-record-smaller : goal.loop-record-smaller
 loop-record-smaller c =
-    let p = c in
-    let w = checked_goes p.loop-record.invariant (sym p.read_at-read.ensures ∙ c.in-Stands.is) in
+    let w = checked_goes c.loop-record.invariant (sym c.read_at-read.ensures ∙ c.in-Stands.is) in
     omega (arith, w.ahead, w.next)
 
 pub loop-record-preserved : goal.loop-record-preserved
-loop-record-preserved c =
-    let p = c in
-    checked_more p.loop-record.invariant (sym p.read_at-read.ensures ∙ c.in-Stands.is)
+loop-record-preserved c = checked_more c.loop-record.invariant (sym c.read_at-read.ensures ∙ c.in-Stands.is)
 
 pub returns-in-End : goal.returns-in-End
-returns-in-End c =
-    let p = c in
-    sym (checked_all p.loop-record.invariant (sym p.read_at-read.ensures ∙ c.in-End.is))
+returns-in-End c = sym (checked_all c.loop-record.invariant (sym c.read_at-read.ensures ∙ c.in-End.is))
 
 pub returns-in-Ill : goal.returns-in-Ill
-returns-in-Ill c =
-    let p = c in
-    sym (checked_ill p.loop-record.invariant (sym p.read_at-read.ensures ∙ c.in-Ill.is))
+returns-in-Ill c = sym (checked_ill c.loop-record.invariant (sym c.read_at-read.ensures ∙ c.in-Ill.is))

@@ -14,8 +14,6 @@ returns-then-file-akm_at c =
 
 pub returns : goal.returns
 returns c =
-    let q = c in
-    let p = q in
-    let a = p.args in
+    let a = c.args in
     by_end a.file.now a.value a.pmkid.now a.akm a.reading
-    q.if-file-akm_at.false (sym p.same.ensures ∙ p.if-not-same.false) q.end_at-end.result.0 q.end_at-end.ensures
+    c.if-file-akm_at.false (sym c.same.ensures ∙ c.if-not-same.false) c.end_at-end.result.0 c.end_at-end.ensures

@@ -9,48 +9,24 @@ returns-then-not-clock_fits c = rw (sym c.clock_fits.ensures ∙ c.if-not-clock_
 
 pub returns-then-room-lt-SMALLEST_BUFFER : goal.returns-then-room-lt-SMALLEST_BUFFER
 unfolding checks
-returns-then-room-lt-SMALLEST_BUFFER c =
-    let p = c in
-    rw (sym p.clock_fits.ensures ∙ c.if-not-clock_fits.false, lt-ltb _ _ c.if-room-lt-SMALLEST_BUFFER.true)
+returns-then-room-lt-SMALLEST_BUFFER c = rw (sym c.clock_fits.ensures ∙ c.if-not-clock_fits.false, lt-ltb _ _ c.if-room-lt-SMALLEST_BUFFER.true)
 
 pub returns-then-not-settings_fit : goal.returns-then-not-settings_fit
 unfolding checks
 returns-then-not-settings_fit c =
-    let p = c in
-    let q = p in
-    let r = q in
-    rw (sym r.clock_fits.ensures ∙ q.if-not-clock_fits.false, le-ltb _ _ p.if-room-lt-SMALLEST_BUFFER.false, sym c.settings_fit.ensures ∙ c.if-not-settings_fit.true)
+    rw (sym c.clock_fits.ensures ∙ c.if-not-clock_fits.false, le-ltb _ _ c.if-room-lt-SMALLEST_BUFFER.false, sym c.settings_fit.ensures ∙ c.if-not-settings_fit.true)
 
 pub returns-then-is_group_address : goal.returns-then-is_group_address
 unfolding checks
 returns-then-is_group_address c =
-    let p = c in
-    let q = p in
-    let r = q in
-    let s = r in
-    let u = s in
-    rw (sym u.clock_fits.ensures ∙ s.if-not-clock_fits.false, le-ltb _ _ r.if-room-lt-SMALLEST_BUFFER.false, sym q.settings_fit.ensures ∙ p.if-not-settings_fit.false, sym c.is_group_address.ensures ∙ c.if-is_group_address.true)
+    rw (sym c.clock_fits.ensures ∙ c.if-not-clock_fits.false, le-ltb _ _ c.if-room-lt-SMALLEST_BUFFER.false, sym c.settings_fit.ensures ∙ c.if-not-settings_fit.false, sym c.is_group_address.ensures ∙ c.if-is_group_address.true)
 
 pub returns-then-not-is_well_formed : goal.returns-then-not-is_well_formed
 unfolding checks
 returns-then-not-is_well_formed c =
-    let p = c in
-    let q = p in
-    let r = q in
-    let s = r in
-    let u = s in
-    let v = u in
-    let w = v in
-    rw (sym w.clock_fits.ensures ∙ v.if-not-clock_fits.false, le-ltb _ _ u.if-room-lt-SMALLEST_BUFFER.false, sym s.settings_fit.ensures ∙ r.if-not-settings_fit.false, sym q.is_group_address.ensures ∙ p.if-is_group_address.false, sym c.is_well_formed.ensures ∙ c.if-not-is_well_formed.true)
+    rw (sym c.clock_fits.ensures ∙ c.if-not-clock_fits.false, le-ltb _ _ c.if-room-lt-SMALLEST_BUFFER.false, sym c.settings_fit.ensures ∙ c.if-not-settings_fit.false, sym c.is_group_address.ensures ∙ c.if-is_group_address.false, sym c.is_well_formed.ensures ∙ c.if-not-is_well_formed.true)
 
 pub returns : goal.returns
 unfolding checks
 returns c =
-    let p = c in
-    let q = p in
-    let r = q in
-    let s = r in
-    let u = s in
-    let v = u in
-    let w = v in
-    rw (sym w.clock_fits.ensures ∙ v.if-not-clock_fits.false, le-ltb _ _ u.if-room-lt-SMALLEST_BUFFER.false, sym s.settings_fit.ensures ∙ r.if-not-settings_fit.false, sym q.is_group_address.ensures ∙ p.if-is_group_address.false, sym c.is_well_formed.ensures ∙ c.if-not-is_well_formed.false)
+    rw (sym c.clock_fits.ensures ∙ c.if-not-clock_fits.false, le-ltb _ _ c.if-room-lt-SMALLEST_BUFFER.false, sym c.settings_fit.ensures ∙ c.if-not-settings_fit.false, sym c.is_group_address.ensures ∙ c.if-is_group_address.false, sym c.is_well_formed.ensures ∙ c.if-not-is_well_formed.false)

@@ -5,39 +5,23 @@ use Rattle.chip.proofs.mic_in.Goals as goal
 
 pub returns-in_default : goal.returns-in_default
 unfolding mic_in
-returns-in_default c =
-    let p = c in
-    rw (sym p.open_body-opened.ensures ∙ c.in_default.is)
+returns-in_default c = rw (sym c.open_body-opened.ensures ∙ c.in_default.is)
 
 pub returns-then-header-ne-PASN : goal.returns-then-header-ne-PASN
 unfolding mic_in
-returns-then-header-ne-PASN c =
-    let p = c in
-    let q = p in
-    rw (sym q.open_body-opened.ensures ∙ p.in-Body.is, ne_eqb _ _ c.if-header-ne-PASN.true)
+returns-then-header-ne-PASN c = rw (sym c.open_body-opened.ensures ∙ c.in-Body.is, ne_eqb _ _ c.if-header-ne-PASN.true)
 
 pub returns-then-header-eq2 : goal.returns-then-header-eq2
 unfolding mic_in
 returns-then-header-eq2 c =
-    let p = c in
-    let q = p in
-    let r = q in
-    rw (sym r.open_body-opened.ensures ∙ q.in-Body.is, eq-eqb _ _ p.if-header-ne-PASN.false, eq-eqb _ _ c.if-header-eq2.true) c.mic_scanned.ensures
+    rw (sym c.open_body-opened.ensures ∙ c.in-Body.is, eq-eqb _ _ c.if-header-ne-PASN.false, eq-eqb _ _ c.if-header-eq2.true) c.mic_scanned.ensures
 
 pub returns-then-header-eq3 : goal.returns-then-header-eq3
 unfolding mic_in
 returns-then-header-eq3 c =
-    let p = c in
-    let q = p in
-    let r = q in
-    let s = r in
-    rw (sym s.open_body-opened.ensures ∙ r.in-Body.is, eq-eqb _ _ q.if-header-ne-PASN.false, ne_eqb _ _ p.if-header-eq2.false, eq-eqb _ _ c.if-header-eq3.true) c.mic_scanned-then-header-eq3.ensures
+    rw (sym c.open_body-opened.ensures ∙ c.in-Body.is, eq-eqb _ _ c.if-header-ne-PASN.false, ne_eqb _ _ c.if-header-eq2.false, eq-eqb _ _ c.if-header-eq3.true) c.mic_scanned-then-header-eq3.ensures
 
 pub returns : goal.returns
 unfolding mic_in
 returns c =
-    let p = c in
-    let q = p in
-    let r = q in
-    let s = r in
-    rw (sym s.open_body-opened.ensures ∙ r.in-Body.is, eq-eqb _ _ q.if-header-ne-PASN.false, ne_eqb _ _ p.if-header-eq2.false, ne_eqb _ _ c.if-header-eq3.false)
+    rw (sym c.open_body-opened.ensures ∙ c.in-Body.is, eq-eqb _ _ c.if-header-ne-PASN.false, ne_eqb _ _ c.if-header-eq2.false, ne_eqb _ _ c.if-header-eq3.false)

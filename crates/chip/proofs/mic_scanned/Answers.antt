@@ -5,18 +5,11 @@ use Rattle.frames.proofs.Otherwise.{ordered}
 use Rattle.chip.proofs.mic_scanned.Goals as goal
 
 pub returns-in_default : goal.returns-in_default
-returns-in_default c =
-    let p = c in
-    rw (sym p.scan_body-scan.ensures ∙ c.in_default.is)
+returns-in_default c = rw (sym c.scan_body-scan.ensures ∙ c.in_default.is)
 
 pub mic_at-requires : goal.mic_at-requires
 mic_at-requires c =
-    let p = c in
-    let q = p in
-    ordered (length q.args.body.now) c.in-Walked.places.mic (within q.args.body.now c.in-Walked.places (sym p.scan_body-scan.ensures ∙ c.in-Walked.is)).mic
+    ordered (length c.args.body.now) c.in-Walked.places.mic (within c.args.body.now c.in-Walked.places (sym c.scan_body-scan.ensures ∙ c.in-Walked.is)).mic
 
 pub returns : goal.returns
-returns c =
-    let p = c in
-    let q = p in
-    rw (sym q.scan_body-scan.ensures ∙ p.in-Walked.is) c.mic_at.ensures
+returns c = rw (sym c.scan_body-scan.ensures ∙ c.in-Walked.is) c.mic_at.ensures

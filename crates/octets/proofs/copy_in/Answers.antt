@@ -16,10 +16,9 @@ bounds-d-i c = omega (arith, c.loop-i.invariant.1.kept)
 
 pub loop-i-preserved : goal.loop-i-preserved
 loop-i-preserved c =
-    let p = c in
-    let src = p.args.src.now in (
+    let src = c.args.src.now in (
       search rules,
-      writing_more (get_or src p.loop-i.i 0) p.loop-i.invariant.1 (omega arith) (ap (λ (k : ℕ). take k src) (add-one p.loop-i.i) ∙ take-suc src p.loop-i.i 0 c.loop-i-test.true),
+      writing_more (get_or src c.loop-i.i 0) c.loop-i.invariant.1 (omega arith) (ap (λ (k : ℕ). take k src) (add-one c.loop-i.i) ∙ take-suc src c.loop-i.i 0 c.loop-i-test.true),
     )
 
 pub shape_of-d : goal.shape_of-d

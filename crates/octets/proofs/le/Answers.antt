@@ -10,19 +10,14 @@ pub overflow_mul-n : goal.overflow_mul-n
 overflow_mul-n c = omega (arith, reading_room c.loop-left.invariant c.loop-left-test.true c.requires.0)
 
 pub overflow_cast-n : goal.overflow_cast-n
-overflow_cast-n c =
-    let p = c in
-    omega (arith, c.type_inv.s (p.args.at + (p.loop-left.left - 1)))
+overflow_cast-n c = omega (arith, c.type_inv.s (c.args.at + (c.loop-left.left - 1)))
 
 pub overflow_add-n-in-loop-left : goal.overflow_add-n-in-loop-left
 overflow_add-n-in-loop-left c =
-    let p = c in
-    omega (arith, reading_room p.loop-left.invariant c.loop-left-test.true p.requires.0, c.type_inv.s (p.args.at + (p.loop-left.left - 1)))
+    omega (arith, reading_room c.loop-left.invariant c.loop-left-test.true c.requires.0, c.type_inv.s (c.args.at + (c.loop-left.left - 1)))
 
 pub loop-left-preserved : goal.loop-left-preserved
-loop-left-preserved c =
-    let p = c in
-    reading_more p.loop-left.invariant c.loop-left-test.true (omega (arith, c.type_inv.s (p.args.at + (p.loop-left.left - 1))))
+loop-left-preserved c = reading_more c.loop-left.invariant c.loop-left-test.true (omega (arith, c.type_inv.s (c.args.at + (c.loop-left.left - 1))))
 
 pub returns : goal.returns
 returns c = reading_done c.loop-left.invariant c.loop-left-test.false

@@ -20,12 +20,11 @@ overflow_add-i c = omega arith
 
 pub loop-i-preserved : goal.loop-i-preserved
 loop-i-preserved c =
-    let p = c in
-    let n = p.args.n in (
+    let n = c.args.n in (
       search rules,
-      ap (λ (k : ℕ). k / 256) p.loop-i.invariant.1 ∙ sym (above_more p.loop-i.i n),
-      writing_more (p.loop-i.rest % 256) p.loop-i.invariant.2 (omega arith)
-          (octets_more p.loop-i.i n ∙ ap (λ (k : ℕ). octets p.loop-i.i n ++ (k % 256 ∷ [])) (sym p.loop-i.invariant.1)),
+      ap (λ (k : ℕ). k / 256) c.loop-i.invariant.1 ∙ sym (above_more c.loop-i.i n),
+      writing_more (c.loop-i.rest % 256) c.loop-i.invariant.2 (omega arith)
+          (octets_more c.loop-i.i n ∙ ap (λ (k : ℕ). octets c.loop-i.i n ++ (k % 256 ∷ [])) (sym c.loop-i.invariant.1)),
     )
 
 pub shape_of-d : goal.shape_of-d

@@ -18,15 +18,13 @@ loop-i-init c =
 
 pub returns-then-a-i : goal.returns-then-a-i
 returns-then-a-i c =
-    let p = c in
-    let q = p.args in
-    unlike q.a.now q.b.now (λ e. c.if-a-i.true (ap (λ (l : List ℕ). get_or l (p.loop-i.i - 1) 0) e))
+    let q = c.args in
+    unlike q.a.now q.b.now (λ e. c.if-a-i.true (ap (λ (l : List ℕ). get_or l (c.loop-i.i - 1) 0) e))
 
 pub loop-i-preserved : goal.loop-i-preserved
 loop-i-preserved c =
-    let p = c in
-    let q = p.args in
-    (search rules, same_goes q.a.now q.b.now p.if-a-b.false p.loop-i.i p.loop-i.invariant.1 c.loop-i-test.true p.loop-i.invariant.0 c.if-a-i.false)
+    let q = c.args in
+    (search rules, same_goes q.a.now q.b.now c.if-a-b.false c.loop-i.i c.loop-i.invariant.1 c.loop-i-test.true c.loop-i.invariant.0 c.if-a-i.false)
 
 pub returns : goal.returns
 returns c =

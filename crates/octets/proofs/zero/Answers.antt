@@ -15,9 +15,7 @@ pub overflow_add-i : goal.overflow_add-i
 overflow_add-i c = omega arith
 
 pub loop-i-preserved : goal.loop-i-preserved
-loop-i-preserved c =
-    let p = c in
-    (search rules, writing_more 0 p.loop-i.invariant.1 (omega arith) (sym (replicate-append-replicate p.loop-i.i 1 0)))
+loop-i-preserved c = (search rules, writing_more 0 c.loop-i.invariant.1 (omega arith) (sym (replicate-append-replicate c.loop-i.i 1 0)))
 
 pub shape_of-d : goal.shape_of-d
 shape_of-d c = c.loop-i.invariant.1.kept

@@ -18,26 +18,20 @@ wrote cookie n before after k = Wrote (comeback_octets (side_of k) (comeback_by 
 
 pub put_counted-requires : goal.put_counted-requires
 put_counted-requires c =
-    let p = c in
-    let f = subst (fits p.args.cookie.now _) c.in-Cookie.is p.requires in
+    let f = subst (fits c.args.cookie.now _) c.in-Cookie.is c.requires in
     (omega arith, omega arith)
 
 pub put_numbered-requires : goal.put_numbered-requires
 unfolding octets
 put_numbered-requires c =
-    let p = c in
-    let f = subst (fits p.args.cookie.now _) c.in-After.is p.requires in
+    let f = subst (fits c.args.cookie.now _) c.in-After.is c.requires in
     (omega arith, omega arith)
 
 pub returns-in-Absent : goal.returns-in-Absent
 returns-in-Absent c = subst (wrote _ _ _ _) (sym c.in-Absent.is) (wrote_none _)
 
 pub returns-in-Cookie : goal.returns-in-Cookie
-returns-in-Cookie c =
-    let p = c in
-    subst (wrote _ _ _ _) (sym p.in-Cookie.is) p.put_counted.ensures
+returns-in-Cookie c = subst (wrote _ _ _ _) (sym c.in-Cookie.is) c.put_counted.ensures
 
 pub returns-in-After : goal.returns-in-After
-returns-in-After c =
-    let p = c in
-    subst (wrote _ _ _ _) (sym p.in-After.is) p.put_numbered.ensures
+returns-in-After c = subst (wrote _ _ _ _) (sym c.in-After.is) c.put_numbered.ensures

@@ -9,6 +9,4 @@ put_numbered-requires c =
     (omega arith, omega arith)
 
 pub returns-in-Key : goal.returns-in-Key
-returns-in-Key c =
-    let p = c in
-    rw p.in-Key.is p.put_numbered.ensures
+returns-in-Key c = rw c.in-Key.is c.put_numbered.ensures

@@ -30,5 +30,4 @@ returns-then-content-start c = rw (le-ltb _ _ c.if-content-lt2.false, ne_eqb _ _
 pub returns : goal.returns
 unfolding parameters_of
 returns c =
-    let p = c in
-    rw (le-ltb _ _ p.if-content-lt2.false, ne_eqb _ _ p.if-content-eq0.false, ← p.after_width-at.ensures, lt-leb _ _ c.if-content-at.false, le-ltb _ _ c.if-content-start.false, ← c.comeback_of-comeback.ensures) c.read_offer-2.ensures
+    rw (le-ltb _ _ c.if-content-lt2.false, ne_eqb _ _ c.if-content-eq0.false, ← c.after_width-at.ensures, lt-leb _ _ c.if-content-at.false, le-ltb _ _ c.if-content-start.false, ← c.comeback_of-comeback.ensures) c.read_offer-2.ensures

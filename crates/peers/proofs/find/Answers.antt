@@ -8,10 +8,7 @@ pub loop-i-init : goal.loop-i-init
 loop-i-init c = searched_none _ _ _ (search (rules, long))
 
 pub returns-then-is_of : goal.returns-then-is_of
-returns-then-is_of c =
-    let p = c in
-    let q = p in
-    searched_stops q.loop-i.invariant q.loop-i-test.true (sym p.is_live.ensures ∙ c.if-is_live.true) (sym c.is_of.ensures ∙ c.if-is_of.true)
+returns-then-is_of c = searched_stops c.loop-i.invariant c.loop-i-test.true (sym c.is_live.ensures ∙ c.if-is_live.true) (sym c.is_of.ensures ∙ c.if-is_of.true)
 
 pub loop-i-preserved : goal.loop-i-preserved
 loop-i-preserved c =

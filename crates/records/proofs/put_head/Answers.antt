@@ -9,14 +9,8 @@ use Rattle.records.proofs.put_head.Goals as goal
 pub returns : goal.returns
 unfolding head_of
 returns c =
-    let suites = c in
-    let phase = suites in
-    let pmkid = phase in
-    let flag = pmkid in
-    let yes = flag in
-    let address = yes in
-    let p = address.args.p in
+    let p = c.args.p in
     let la : length p.address ≡ 6 = search rules in
     let lm : length p.pmkid ≡ 16 = search rules in
-    let w = more (more (more (more (wrote_none _) address.copy_in.ensures la) flag.copy_in-2.ensures refl) pmkid.copy_in-3.ensures lm) suites.copy_in-4.ensures refl in
-    record { wrote = rw (← yes.yes_number.ensures, ← phase.phase_number.ensures) w; address = la; pmkid = lm }
+    let w = more (more (more (more (wrote_none _) c.copy_in.ensures la) c.copy_in-2.ensures refl) c.copy_in-3.ensures lm) c.copy_in-4.ensures refl in
+    record { wrote = rw (← c.yes_number.ensures, ← c.phase_number.ensures) w; address = la; pmkid = lm }

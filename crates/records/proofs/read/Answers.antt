@@ -7,10 +7,9 @@ use Rattle.records.proofs.read.Goals as goal
 pub returns : goal.returns
 unfolding peer_of
 returns c =
-    let s = c in
     rw (
-      copied_part s.args.r.now address_at 6 c.copy_in.ensures refl (omega (arith, s.requires)),
-      copied_part s.args.r.now pmkid_at 16 c.copy_in-2.ensures refl (omega (arith, s.requires)),
+      copied_part c.args.r.now address_at 6 c.copy_in.ensures refl (omega (arith, c.requires)),
+      copied_part c.args.r.now pmkid_at 16 c.copy_in-2.ensures refl (omega (arith, c.requires)),
       c.is_yes.ensures,
       c.phase_of.ensures,
       c.le8.ensures,

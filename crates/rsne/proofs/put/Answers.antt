@@ -15,10 +15,7 @@ overflow_add-result c = omega (arith, length_suite 7)
 pub returns : goal.returns
 unfolding rsne_octets octets suite_octets
 returns c =
-    let p = c in
-    let q = p in
-    let r = q in
-    let n = length r.args.pmkids.now in
+    let n = length c.args.pmkids.now in
     let e₀ : n / 16 % 256 ≡ n / 16 = omega arith in
     let e₁ : n / 16 / 256 % 256 ≡ 0 = omega arith in
-    rw (e₀, e₁) (wrote_more (wrote_more r.copy_in-a.ensures q.copy_in.ensures) p.put_suite.ensures)
+    rw (e₀, e₁) (wrote_more (wrote_more c.copy_in-a.ensures c.copy_in.ensures) c.put_suite.ensures)

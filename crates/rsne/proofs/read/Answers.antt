@@ -16,24 +16,19 @@ returns-then-n-without_akms c = ill_length _ (λ e. omega (arith, c.le2-m.ensure
 
 pub returns-then-n-without_pmkids : goal.returns-then-n-without_pmkids
 unfolding pairwise_count
-returns-then-n-without_pmkids c =
-    let p = c in
-    ill_length _ (λ e. omega (arith, p.le2-m.ensures, akms _ p.le2-m.ensures p.le2-a.ensures))
+returns-then-n-without_pmkids c = ill_length _ (λ e. omega (arith, c.le2-m.ensures, akms _ c.le2-m.ensures c.le2-a.ensures))
 
 pub returns-then-n-without_pmkids-2 : goal.returns-then-n-without_pmkids-2
 unfolding pairwise_count
 returns-then-n-without_pmkids-2 c =
-    let p = c in
-    let em = p.le2-m.ensures in
-    let ea = akms _ em p.le2-a.ensures in
-    ill_length _ (λ e. c.if-n-without_pmkids-2.true (omega (arith, em, ea, pmkids _ em ea p.le2-p.ensures)))
+    let em = c.le2-m.ensures in
+    let ea = akms _ em c.le2-a.ensures in
+    ill_length _ (λ e. c.if-n-without_pmkids-2.true (omega (arith, em, ea, pmkids _ em ea c.le2-p.ensures)))
 
 pub returns : goal.returns
 unfolding pairwise_count
 returns c =
-    let p = c in
-    let q = p in
-    let em = q.le2-m.ensures in
-    let ea = akms _ em q.le2-a.ensures in
-    good _ (sym q.le2-version.ensures ∙ q.if-version-ne1.false) em ea (pmkids _ em ea p.le2-p.ensures) p.if-n-without_pmkids-2.false
+    let em = c.le2-m.ensures in
+    let ea = akms _ em c.le2-a.ensures in
+    good _ (sym c.le2-version.ensures ∙ c.if-version-ne1.false) em ea (pmkids _ em ea c.le2-p.ensures) c.if-n-without_pmkids-2.false
     c.suite_at.ensures c.only_of.ensures c.only_of-2.ensures c.le2.ensures c.suite_at-2.ensures

@@ -14,6 +14,4 @@ unfolding scan_of walk_body
 returns-then-body-gt-LONGEST_BODY c = simp (le-ltb _ _ c.if-body-lt-HEADER.false, lt-ltb _ _ c.if-body-gt-LONGEST_BODY.true)
 
 pub returns : goal.returns
-returns c =
-    let p = c in
-    c.scan_elements.ensures ∙ sym (in_body _ p.if-body-lt-HEADER.false p.if-body-gt-LONGEST_BODY.false)
+returns c = c.scan_elements.ensures ∙ sym (in_body _ c.if-body-lt-HEADER.false c.if-body-gt-LONGEST_BODY.false)

@@ -10,26 +10,16 @@ unfolding places_of
 loop-e-init c = scanned_none _ 6
 
 pub returns-in-End : goal.returns-in-End
-returns-in-End c =
-    let p = c in
-    sym (scanned_all p.loop-e.invariant (sym p.met_at-met.ensures ∙ c.in-End.is))
+returns-in-End c = sym (scanned_all c.loop-e.invariant (sym c.met_at-met.ensures ∙ c.in-End.is))
 
 pub returns-in-Failed : goal.returns-in-Failed
-returns-in-Failed c =
-    let p = c in
-    sym (scanned_failed p.loop-e.invariant (sym p.met_at-met.ensures ∙ c.in-Failed.is))
+returns-in-Failed c = sym (scanned_failed c.loop-e.invariant (sym c.met_at-met.ensures ∙ c.in-Failed.is))
 
 pub loop-e-smaller : goal.loop-e-smaller
-loop-e-smaller c =
-    let p = c in
-    let q = p in
-    omega (arith, stood q.args.body.now q.loop-e.at p.in-Stands.e (sym q.met_at-met.ensures ∙ p.in-Stands.is))
+loop-e-smaller c = omega (arith, stood c.args.body.now c.loop-e.at c.in-Stands.e (sym c.met_at-met.ensures ∙ c.in-Stands.is))
 
 pub loop-e-preserved : goal.loop-e-preserved
 loop-e-preserved c =
-    let m = c in
-    let p = m in
-    let q = p in
-    scanned_more q.loop-e.invariant p.in-Stands.e (sym q.met_at-met.ensures ∙ p.in-Stands.is) m.kind_of-kind.ensures
-    m.mark-rsne.ensures c.mark-timeout.ensures c.mark-mic.ensures
+    scanned_more c.loop-e.invariant c.in-Stands.e (sym c.met_at-met.ensures ∙ c.in-Stands.is) c.kind_of-kind.ensures
+    c.mark-rsne.ensures c.mark-timeout.ensures c.mark-mic.ensures
     c.mark-fragment.ensures c.mark-parameters.ensures c.mark-wrapped.ensures

@@ -8,10 +8,7 @@ pub loop-i-init : goal.loop-i-init
 loop-i-init c = searched_none _ _ _ (places _)
 
 pub returns-then-of_at : goal.returns-then-of_at
-returns-then-of_at c =
-    let p = c in
-    let q = p in
-    searched_stops q.loop-i.invariant q.loop-i-test.true (sym p.live_at.ensures ∙ c.if-live_at.true) (sym c.of_at.ensures ∙ c.if-of_at.true)
+returns-then-of_at c = searched_stops c.loop-i.invariant c.loop-i-test.true (sym c.live_at.ensures ∙ c.if-live_at.true) (sym c.of_at.ensures ∙ c.if-of_at.true)
 
 pub loop-i-preserved : goal.loop-i-preserved
 loop-i-preserved c =

@@ -8,5 +8,4 @@ use Rattle.state.proofs.of_at.Goals as goal
 
 pub returns : goal.returns
 returns c =
-    let p = c in
-    c.same.ensures ∙ ap (λ (l : List ℕ). same_octets l p.args.address.now) (part p.args.s.now (record_size * p.args.i + address_at) 6 ∙ sym (address_stands _ _ p.requires.0))
+    c.same.ensures ∙ ap (λ (l : List ℕ). same_octets l c.args.address.now) (part c.args.s.now (record_size * c.args.i + address_at) 6 ∙ sym (address_stands _ _ c.requires.0))

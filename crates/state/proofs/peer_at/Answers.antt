@@ -5,6 +5,4 @@ use Rattle.state.proofs.Places.{part, peer_at}
 use Rattle.state.proofs.peer_at.Goals as goal
 
 pub returns : goal.returns
-returns c =
-    let p = c in
-    c.read.ensures ∙ ap peer_of (part p.args.s.now (record_size * p.args.i) record_size) ∙ sym (peer_at _ _ p.requires.0)
+returns c = c.read.ensures ∙ ap peer_of (part c.args.s.now (record_size * c.args.i) record_size) ∙ sym (peer_at _ _ c.requires.0)

@@ -4,6 +4,5 @@ use Rattle.state.proofs.store.Goals as goal
 
 pub returns : goal.returns
 returns c =
-    let p = c in
     let e = c.put.ensures in
-    stores _ p.requires.1 _ p.requires.0 (sym e.wrote.tells) e.wrote ∙ rw e.reads
+    stores _ c.requires.1 _ c.requires.0 (sym e.wrote.tells) e.wrote ∙ rw e.reads

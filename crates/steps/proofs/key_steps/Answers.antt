@@ -4,31 +4,16 @@ use Rattle.steps.proofs.key_steps.Goals as goal
 
 pub returns-in_default : goal.returns-in_default
 unfolding key_steps
-returns-in_default c =
-    let p = c in
-    rw (sym p.group_of-entry.ensures ∙ c.in_default.is)
+returns-in_default c = rw (sym c.group_of-entry.ensures ∙ c.in_default.is)
 
 pub returns-then-not-is_key_of : goal.returns-then-not-is_key_of
 unfolding key_steps
-returns-then-not-is_key_of c =
-    let p = c in
-    let q = p in
-    rw (sym q.group_of-entry.ensures ∙ p.in-In.is, sym c.is_key_of.ensures ∙ c.if-not-is_key_of.true)
+returns-then-not-is_key_of c = rw (sym c.group_of-entry.ensures ∙ c.in-In.is, sym c.is_key_of.ensures ∙ c.if-not-is_key_of.true)
 
 pub returns-then-not-point : goal.returns-then-not-point
 unfolding key_steps
-returns-then-not-point c =
-    let p = c in
-    let q = p in
-    let r = q in
-    let s = r in
-    rw (sym r.group_of-entry.ensures ∙ q.in-In.is, sym p.is_key_of.ensures ∙ c.if-not-is_key_of.false, c.if-not-point.true)
+returns-then-not-point c = rw (sym c.group_of-entry.ensures ∙ c.in-In.is, sym c.is_key_of.ensures ∙ c.if-not-is_key_of.false, c.if-not-point.true)
 
 pub returns : goal.returns
 unfolding key_steps
-returns c =
-    let p = c in
-    let q = p in
-    let r = q in
-    let s = r in
-    rw (sym r.group_of-entry.ensures ∙ q.in-In.is, sym p.is_key_of.ensures ∙ c.if-not-is_key_of.false, c.if-not-point.false)
+returns c = rw (sym c.group_of-entry.ensures ∙ c.in-In.is, sym c.is_key_of.ensures ∙ c.if-not-is_key_of.false, c.if-not-point.false)

@@ -18,24 +18,15 @@ by_none true = refl
 by_none false = refl
 
 pub returns-in_default : goal.returns-in_default
-returns-in_default c =
-    let p = c in
-    let q = p in
-    rw (q.if-akm.true, sym p.choose-choice.ensures ∙ c.in_default.is)
+returns-in_default c = rw (c.if-akm.true, sym c.choose-choice.ensures ∙ c.in_default.is)
 
 pub pmkid_at-chosen-requires : goal.pmkid_at-chosen-requires
 pmkid_at-chosen-requires c =
-    let p = c in
-    let q = p in
-    in_list (records_of q.args.file.now) q.args.pmkids.now q.args.akm.kind q.args.reading (sym p.choose-choice.ensures ∙ c.in-Chosen.is)
+    in_list (records_of c.args.file.now) c.args.pmkids.now c.args.akm.kind c.args.reading (sym c.choose-choice.ensures ∙ c.in-Chosen.is)
 
 pub returns-then-akm : goal.returns-then-akm
 returns-then-akm c =
-    let p = c in
-    let q = p in
-    let r = q in
-    let s = r in
-    rw (r.if-akm.true, sym q.choose-choice.ensures ∙ p.in-Chosen.is) (ap (λ (l : List ℕ). pmkid_step_of (pass (some l))) (c.pmkid_at-chosen.ensures ∙ sym (that_part (records_of s.args.file.now) s.args.pmkids.now s.args.akm.kind s.args.reading (sym q.choose-choice.ensures ∙ p.in-Chosen.is))))
+    rw (c.if-akm.true, sym c.choose-choice.ensures ∙ c.in-Chosen.is) (ap (λ (l : List ℕ). pmkid_step_of (pass (some l))) (c.pmkid_at-chosen.ensures ∙ sym (that_part (records_of c.args.file.now) c.args.pmkids.now c.args.akm.kind c.args.reading (sym c.choose-choice.ensures ∙ c.in-Chosen.is))))
 
 pub returns : goal.returns
 returns c = rw c.if-akm.false (by_none _)

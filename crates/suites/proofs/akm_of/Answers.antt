@@ -8,11 +8,11 @@ loop-i-init c = searched_none
 
 pub returns-then-akm-kind : goal.returns-then-akm-kind
 unfolding akm_of
-returns-then-akm-kind c = let p = c in searched_stops p.loop-i.invariant _ _ _ p.loop-i-test.true c.if-akm-kind.true
+returns-then-akm-kind c = searched_stops c.loop-i.invariant _ _ _ c.loop-i-test.true c.if-akm-kind.true
 
 pub loop-i-preserved : goal.loop-i-preserved
 unfolding akm_of
-loop-i-preserved c = let p = c in searched_more p.loop-i.invariant _ p.loop-i-test.true c.if-akm-kind.false
+loop-i-preserved c = searched_more c.loop-i.invariant _ c.loop-i-test.true c.if-akm-kind.false
 
 pub returns : goal.returns
 unfolding akm_of

@@ -8,11 +8,11 @@ loop-i-init c = searched_none
 
 pub returns-then-cipher-kind : goal.returns-then-cipher-kind
 unfolding cipher_of
-returns-then-cipher-kind c = let p = c in searched_stops p.loop-i.invariant _ _ _ p.loop-i-test.true c.if-cipher-kind.true
+returns-then-cipher-kind c = searched_stops c.loop-i.invariant _ _ _ c.loop-i-test.true c.if-cipher-kind.true
 
 pub loop-i-preserved : goal.loop-i-preserved
 unfolding cipher_of
-loop-i-preserved c = let p = c in searched_more p.loop-i.invariant _ p.loop-i-test.true c.if-cipher-kind.false
+loop-i-preserved c = searched_more c.loop-i.invariant _ c.loop-i-test.true c.if-cipher-kind.false
 
 pub returns : goal.returns
 unfolding cipher_of

@@ -8,11 +8,11 @@ loop-i-init c = searched_none
 
 pub returns-then-group-number : goal.returns-then-group-number
 unfolding group_of
-returns-then-group-number c = let p = c in searched_stops p.loop-i.invariant _ _ _ p.loop-i-test.true c.if-group-number.true
+returns-then-group-number c = searched_stops c.loop-i.invariant _ _ _ c.loop-i-test.true c.if-group-number.true
 
 pub loop-i-preserved : goal.loop-i-preserved
 unfolding group_of
-loop-i-preserved c = let p = c in searched_more p.loop-i.invariant _ p.loop-i-test.true c.if-group-number.false
+loop-i-preserved c = searched_more c.loop-i.invariant _ c.loop-i-test.true c.if-group-number.false
 
 pub returns : goal.returns
 unfolding group_of

@@ -8,11 +8,11 @@ loop-i-init c = searched_none
 
 pub returns-then-akm-n : goal.returns-then-akm-n
 unfolding is_mic_length
-returns-then-akm-n c = let p = c in searched_stops p.loop-i.invariant _ _ _ p.loop-i-test.true c.if-akm-n.true
+returns-then-akm-n c = searched_stops c.loop-i.invariant _ _ _ c.loop-i-test.true c.if-akm-n.true
 
 pub loop-i-preserved : goal.loop-i-preserved
 unfolding is_mic_length
-loop-i-preserved c = let p = c in searched_more p.loop-i.invariant _ p.loop-i-test.true c.if-akm-n.false
+loop-i-preserved c = searched_more c.loop-i.invariant _ c.loop-i-test.true c.if-akm-n.false
 
 pub returns : goal.returns
 unfolding is_mic_length

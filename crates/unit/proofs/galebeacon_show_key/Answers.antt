@@ -4,11 +4,7 @@ use Rattle.unit.proofs.Keys.{key_at}
 use Rattle.unit.proofs.galebeacon_show_key.Goals as goal
 
 pub overflow_sub-result : goal.overflow_sub-result
-overflow_sub-result c =
-    let p = c in
-    rw p.show_key-part.ensures (omega (arith, key_part_lies p.args.body.now))
+overflow_sub-result c = rw c.show_key-part.ensures (omega (arith, key_part_lies c.args.body.now))
 
 pub returns : goal.returns
-returns c =
-    let p = c in
-    rw p.show_key-part.ensures (key_at p.args.body.now)
+returns c = rw c.show_key-part.ensures (key_at c.args.body.now)

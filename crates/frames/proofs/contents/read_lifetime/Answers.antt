@@ -10,11 +10,7 @@ pub returns-in-None : goal.returns-in-None
 returns-in-None c = rw c.in-None.is
 
 pub returns-in-Lifetime : goal.returns-in-Lifetime
-returns-in-Lifetime c =
-    let p = c in
-    rw (p.in-One.is, sym p.read-reading.ensures ∙ c.in-Lifetime.is)
+returns-in-Lifetime c = rw (c.in-One.is, sym c.read-reading.ensures ∙ c.in-Lifetime.is)
 
 pub returns-in-Ill : goal.returns-in-Ill
-returns-in-Ill c =
-    let p = c in
-    rw (p.in-One.is, sym p.read-reading.ensures ∙ c.in-Ill.is)
+returns-in-Ill c = rw (c.in-One.is, sym c.read-reading.ensures ∙ c.in-Ill.is)

@@ -12,26 +12,13 @@ pub slice_bounds-read-count : goal.slice_bounds-read-count
 slice_bounds-read-count c = omega (arith, one_lies c.in-One.is c.requires)
 
 pub returns-in_default-reading : goal.returns-in_default-reading
-returns-in_default-reading c =
-    let p = c in
-    rw (p.in-One.is, sym p.read-reading.ensures ∙ c.in_default-reading.is)
+returns-in_default-reading c = rw (c.in-One.is, sym c.read-reading.ensures ∙ c.in_default-reading.is)
 
 pub overflow_add-here : goal.overflow_add-here
-overflow_add-here c =
-    let p = c in
-    let q = p in
-    let r = q in
-    omega (arith, rsne_lies r.args.body.now r.in-One.is r.requires (sym q.read-reading.ensures ∙ p.in-Is.is))
+overflow_add-here c = omega (arith, rsne_lies c.args.body.now c.in-One.is c.requires (sym c.read-reading.ensures ∙ c.in-Is.is))
 
 pub overflow_add-here-2 : goal.overflow_add-here-2
-overflow_add-here-2 c =
-    let p = c in
-    let q = p in
-    let r = q in
-    omega (arith, rsne_lies r.args.body.now r.in-One.is r.requires (sym q.read-reading.ensures ∙ p.in-Is.is))
+overflow_add-here-2 c = omega (arith, rsne_lies c.args.body.now c.in-One.is c.requires (sym c.read-reading.ensures ∙ c.in-Is.is))
 
 pub returns : goal.returns
-returns c =
-    let p = c in
-    let q = p in
-    rw (q.in-One.is, sym q.read-reading.ensures ∙ p.in-Is.is)
+returns c = rw (c.in-One.is, sym c.read-reading.ensures ∙ c.in-Is.is)

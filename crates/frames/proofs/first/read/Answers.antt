@@ -14,7 +14,6 @@ returns-in_default c = rw (sym c.scan_body-scan.ensures ∙ c.in_default.is)
 
 pub returns-in_default-fragment : goal.returns-in_default-fragment
 returns-in_default-fragment c =
-    let p = c in
     first_ill _ (ap is_walked (sym c.scan_body-scan.ensures ∙ c.in-Walked.is)) λ facts s. apart (not_none c.in-Walked.p.fragment c.in_default-fragment.not-None) s.fragment
 
 pub read_rsne-reading-requires : goal.read_rsne-reading-requires
@@ -22,7 +21,6 @@ read_rsne-reading-requires c = (walked_lies _ (ap is_walked (sym c.scan_body-sca
 
 pub returns-in_default-reading : goal.returns-in_default-reading
 returns-in_default-reading c =
-    let p = c in
     first_ill _ (ap is_walked (sym c.scan_body-scan.ensures ∙ c.in-Walked.is)) λ facts s. apart (ap is_rsne (sym c.in_default-reading.is) ∙ c.read_rsne-reading.ensures) s.rsne
 
 pub read_lifetime-reading-requires : goal.read_lifetime-reading-requires
@@ -30,7 +28,6 @@ read_lifetime-reading-requires c = (walked_lies _ (ap is_walked (sym c.scan_body
 
 pub returns-in_default-reading-2 : goal.returns-in_default-reading-2
 returns-in_default-reading-2 c =
-    let p = c in
     first_ill _ (ap is_walked (sym c.scan_body-scan.ensures ∙ c.in-Walked.is)) λ facts s. apart (ap is_lifetime_reading (sym c.in_default-reading-2.is) ∙ c.read_lifetime-reading.ensures) s.lifetime
 
 pub read_offered-offered-requires : goal.read_offered-offered-requires
@@ -38,12 +35,10 @@ read_offered-offered-requires c = (walked_lies _ (ap is_walked (sym c.scan_body-
 
 pub returns-in_default-offered : goal.returns-in_default-offered
 returns-in_default-offered c =
-    let p = c in
     first_ill _ (ap is_walked (sym c.scan_body-scan.ensures ∙ c.in-Walked.is)) λ facts s. apart (ap is_offered (sym c.in_default-offered.is) ∙ c.read_offered-offered.ensures) s.offered
 
 pub returns-then-wrapped_fits : goal.returns-then-wrapped_fits
 returns-then-wrapped_fits c =
-    let p = c in
     sym (first_made _ (ap is_walked (sym c.scan_body-scan.ensures ∙ c.in-Walked.is)) (record {
       fragment = ap never c.in-None.is;
       rsne = sym c.read_rsne-reading.ensures ∙ ap is_rsne c.in-Is.is;
@@ -54,6 +49,5 @@ returns-then-wrapped_fits c =
 
 pub returns : goal.returns
 returns c =
-    let p = c in
     first_unwrapped _ (ap is_walked (sym c.scan_body-scan.ensures ∙ c.in-Walked.is)) (sym c.read_offered-offered.ensures ∙ ap is_offered c.in-Key.is)
     (ap holds (sym c.if-wrapped_fits.false) ∙ c.wrapped_fits.ensures)

@@ -22,16 +22,10 @@ pub overflow_add-start : goal.overflow_add-start
 overflow_add-start c = omega (arith, one_lies c.in-One.is c.requires)
 
 pub overflow_add-result : goal.overflow_add-result
-overflow_add-result c =
-    let p = c in
-    let s = c in
-    omega (arith, key_lies s.args.body.now c.in-One.is Station s.requires (sym p.parameters_at-reading.ensures ∙ c.in-Is.is) c.in-Key.is)
+overflow_add-result c = omega (arith, key_lies c.args.body.now c.in-One.is Station c.requires (sym c.parameters_at-reading.ensures ∙ c.in-Is.is) c.in-Key.is)
 
 pub overflow_add-result-2 : goal.overflow_add-result-2
-overflow_add-result-2 c =
-    let p = c in
-    let s = c in
-    omega (arith, key_lies s.args.body.now c.in-One.is Station s.requires (sym p.parameters_at-reading.ensures ∙ c.in-Is.is) c.in-Key.is)
+overflow_add-result-2 c = omega (arith, key_lies c.args.body.now c.in-One.is Station c.requires (sym c.parameters_at-reading.ensures ∙ c.in-Is.is) c.in-Key.is)
 
 pub returns : goal.returns
 returns c = rw (c.in-One.is, sym c.parameters_at-reading.ensures ∙ c.in-Is.is, c.in-Key.is)

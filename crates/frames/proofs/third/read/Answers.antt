@@ -13,30 +13,24 @@ returns-in_default c = rw (sym c.scan_body-scan.ensures ∙ c.in_default.is)
 
 pub returns-in_default-fragment : goal.returns-in_default-fragment
 returns-in_default-fragment c =
-    let p = c in
     third_ill _ _ (ap is_walked (sym c.scan_body-scan.ensures ∙ c.in-Walked.is)) λ mic s. apart (not_none c.in-Walked.p.fragment c.in_default-fragment.not-None) s.fragment
 
 pub returns-in_default-wrapped : goal.returns-in_default-wrapped
 returns-in_default-wrapped c =
-    let p = c in
     third_ill _ _ (ap is_walked (sym c.scan_body-scan.ensures ∙ c.in-Walked.is)) λ mic s. apart (not_none c.in-Walked.p.wrapped c.in_default-wrapped.not-None) s.wrapped
 
 pub is_quiet-requires : goal.is_quiet-requires
 is_quiet-requires c = (walked_lies _ (ap is_walked (sym c.scan_body-scan.ensures ∙ c.in-Walked.is))).parameters
 
 pub mic_of-requires : goal.mic_of-requires
-mic_of-requires c =
-    let p = c in
-    ordered _ c.in-Walked.p.mic (walked_lies _ (ap is_walked (sym c.scan_body-scan.ensures ∙ c.in-Walked.is))).mic
+mic_of-requires c = ordered _ c.in-Walked.p.mic (walked_lies _ (ap is_walked (sym c.scan_body-scan.ensures ∙ c.in-Walked.is))).mic
 
 pub returns-then-is_quiet : goal.returns-then-is_quiet
 returns-then-is_quiet c =
-    let p = c in
     c.mic_of.ensures
     ∙ third_mic _ _ (ap is_walked (sym c.scan_body-scan.ensures ∙ c.in-Walked.is)) (ap never c.in-None.is) (ap never c.in-None-wrapped.is)
     (sym c.is_quiet.ensures ∙ ap holds c.if-is_quiet.true)
 
 pub returns : goal.returns
 returns c =
-    let p = c in
     third_ill _ _ (ap is_walked (sym c.scan_body-scan.ensures ∙ c.in-Walked.is)) λ mic s. apart (ap holds (sym c.if-is_quiet.false) ∙ c.is_quiet.ensures) s.quiet

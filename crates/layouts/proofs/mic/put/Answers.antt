@@ -6,12 +6,8 @@ use Rattle.layouts.specs.Mic.{mic_octets}
 use Rattle.layouts.proofs.mic.put.Goals as goal
 
 pub overflow_add-result : goal.overflow_add-result
-overflow_add-result c =
-    let p = c in
-    omega (arith, length-replicate {A = ℕ} p.args.n 0)
+overflow_add-result c = omega (arith, length-replicate {A = ℕ} c.args.n 0)
 
 pub returns : goal.returns
 unfolding mic_octets
-returns c =
-    let p = c in
-    wrote_more p.copy_in-head.ensures p.zero.ensures
+returns c = wrote_more c.copy_in-head.ensures c.zero.ensures

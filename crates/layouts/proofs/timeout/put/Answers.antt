@@ -5,12 +5,8 @@ use Rattle.layouts.specs.Timeout.{timeout_octets}
 use Rattle.layouts.proofs.timeout.put.Goals as goal
 
 pub overflow_add-result : goal.overflow_add-result
-overflow_add-result c =
-    let p = c in
-    omega (arith, length_octets 4 p.args.lifetime.0)
+overflow_add-result c = omega (arith, length_octets 4 c.args.lifetime.0)
 
 pub returns : goal.returns
 unfolding timeout_octets
-returns c =
-    let p = c in
-    wrote_more p.copy_in-head.ensures p.put_le4.ensures
+returns c = wrote_more c.copy_in-head.ensures c.put_le4.ensures

@@ -14,11 +14,8 @@ returns-then-content-ne-KEY_LIFETIME c = rw (eq-eqb _ _ c.if-content-ne5.false, 
 pub returns-then-seconds-eq0 : goal.returns-then-seconds-eq0
 unfolding timeout_of
 returns-then-seconds-eq0 c =
-    let p = c in
-    rw (eq-eqb _ _ p.if-content-ne5.false, eq-eqb _ _ p.if-content-ne-KEY_LIFETIME.false, eq-eqb _ _ (sym p.le4-seconds.ensures ∙ c.if-seconds-eq0.true))
+    rw (eq-eqb _ _ c.if-content-ne5.false, eq-eqb _ _ c.if-content-ne-KEY_LIFETIME.false, eq-eqb _ _ (sym c.le4-seconds.ensures ∙ c.if-seconds-eq0.true))
 
 pub returns : goal.returns
 unfolding timeout_of
-returns c =
-    let p = c in
-    rw (eq-eqb _ _ p.if-content-ne5.false, eq-eqb _ _ p.if-content-ne-KEY_LIFETIME.false, ← p.le4-seconds.ensures, ne_eqb _ _ c.if-seconds-eq0.false)
+returns c = rw (eq-eqb _ _ c.if-content-ne5.false, eq-eqb _ _ c.if-content-ne-KEY_LIFETIME.false, ← c.le4-seconds.ensures, ne_eqb _ _ c.if-seconds-eq0.false)

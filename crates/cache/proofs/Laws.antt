@@ -2,7 +2,8 @@
 use mathlib.Core.Path.{◌≡◌, refl, sym, ap, ◌∙◌, subst}
 use mathlib.Core.Bool.{Bool, true, false, ◌&&◌}
 use mathlib.Core.List.{List, [], ◌∷◌}
-use mathlib.Core.Option.{Option, none, some, some-injective, none-ne-some}
+use Rattle.std.specs.Prelude.{Option, None, Some}
+use Rattle.octets.proofs.Options.{some-injective, none-ne-some}
 use Prim.Native.Nat.{ℕ, suc, ◌+◌, ◌-◌, ◌≤◌, ◌<◌}
 use native.Mathlib.Nat.{sub-zero}
 use native.Mathlib.Omega.{arith}
@@ -11,7 +12,8 @@ use lib.Dec.{eqb, ltb}
 use lib.ListN.{length, get_or, get_elem?}
 use Rattle.std.specs.Prelude.{if◌then◌else◌}
 use Rattle.octets.specs.Equality.{same_octets}
-use Rattle.octets.specs.Search.{first, entry}
+use Rattle.std.specs.List.{find}
+use Rattle.octets.specs.Search.{entry}
 use Rattle.octets.proofs.Equality.{same_eq}
 use Rattle.octets.proofs.Logic.{both}
 use Rattle.units.specs.declared.Tu.{Tu}
@@ -22,19 +24,19 @@ use Rattle.cache.specs.Search.{matches, found_of, choice_from, choice_of}
 -- What was found: it stands in the list, by its place, with that PMKID, the same AKM and an end later than the reading.
 pub record Matched (cs : List Cached) (pmkid : List ℕ) (akm : ℕ) (reading : Tu) (c : Cached) : Type 0 where
   pub place : ℕ
-  pub stands : get_elem? cs place ≡ some c
+  pub stands : get_elem? cs place ≡ Some c
   pub same_pmkid : c.pmkid ≡ pmkid
   pub same_akm : c.akm ≡ akm
   pub later : reading.0 < c.end
 
 module _ (pmkid : List ℕ) (akm : ℕ) (reading : Tu) where
-  pub matched : (cs : List Cached) (c : Cached) → found_of cs pmkid akm reading ≡ some c → Matched cs pmkid akm reading c
-  unfolding found_of first
+  pub matched : (cs : List Cached) (c : Cached) → found_of cs pmkid akm reading ≡ Some c → Matched cs pmkid akm reading c
+  unfolding found_of
   matched [] c e = absurd (none-ne-some c e)
   matched (d ∷ cs) c e = go (matched cs c) (matches pmkid akm reading d) refl e
     where
-      go : (found_of cs pmkid akm reading ≡ some c → Matched cs pmkid akm reading c) → (b : Bool) → matches pmkid akm reading d ≡ b
-          → (if b then some d else found_of cs pmkid akm reading) ≡ some c → Matched (d ∷ cs) pmkid akm reading c
+      go : (found_of cs pmkid akm reading ≡ Some c → Matched cs pmkid akm reading c) → (b : Bool) → matches pmkid akm reading d ≡ b
+          → (if b then Some d else found_of cs pmkid akm reading) ≡ Some c → Matched (d ∷ cs) pmkid akm reading c
       go ih true m e =
           let t = both (same_octets d.pmkid pmkid) (eqb d.akm akm && ltb reading.0 d.end) m in
           let u = both (eqb d.akm akm) (ltb reading.0 d.end) t.1 in
@@ -77,7 +79,7 @@ module _ (cs : List Cached) (akm : ℕ) (reading : Tu) {k : ℕ} {end : Tu} wher
           → (o : Option Cached) → found_of cs p akm reading ≡ o
           → entry (λ c. Choice.Chosen j (record { 0 = c.end })) (choice_from (j + 1) cs ps akm reading) o ≡ Choice.Chosen k end
           → (j ≤ k) × Chosen cs (p ∷ ps) akm reading (k - j) end
-      go ih none q e =
+      go ih None q e =
           let r = ih e in
           let n : suc (k - (j + 1)) ≡ k - j = omega (arith, r.0) in
           let d = r.1 in (
@@ -85,7 +87,7 @@ module _ (cs : List Cached) (akm : ℕ) (reading : Tu) {k : ℕ} {end : Tu} wher
             subst (λ (n : ℕ). Chosen cs (p ∷ ps) akm reading n end) n
                 (record { listed = omega (arith, d.listed); cached = d.cached; found = d.found; told = d.told }),
           )
-      go ih (some c) q e =
+      go ih (Some c) q e =
           let m = chosen_number e in
           let n : 0 ≡ k - j = omega arith in (
             omega arith,

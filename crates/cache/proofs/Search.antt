@@ -2,7 +2,7 @@
 use mathlib.Core.Path.{◌≡◌, refl, sym, ap, ◌∙◌}
 use mathlib.Core.Bool.{Bool, true, false, and-false}
 use mathlib.Core.List.{List, []}
-use mathlib.Core.Option.{Option, none, some}
+use Rattle.std.specs.Prelude.{Option, None, Some}
 use Prim.Native.Nat.{ℕ, ◌+◌, ◌*◌, ◌-◌, ◌≤◌, ◌<◌}
 use native.Mathlib.Numerals.{add-one}
 use native.Mathlib.Omega.{arith}
@@ -11,7 +11,8 @@ use lib.Dec.{ltb}
 use lib.ListN.{length, get_or, take, drop, drop_of_length-le}
 use lib.Seq.{drop-cons}
 use Rattle.octets.specs.Equality.{same_octets}
-use Rattle.octets.specs.Search.{first, entry}
+use Rattle.std.specs.List.{find}
+use Rattle.octets.specs.Search.{entry}
 use Rattle.octets.specs.Pieces.{pieces}
 use Rattle.octets.proofs.Pieces.{length_pieces, piece_at}
 use Rattle.units.specs.declared.Tu.{Tu}
@@ -43,15 +44,14 @@ module _ (file : List ℕ) (value : ℕ) (pmkid : List ℕ) (akm : ℕ) (reading
 pub record Searched (f : Cached → Bool) (file : List ℕ) (at : ℕ) : Type 0 where
   pub left : List Cached
   pub from : From file at left
-  pub so_far : first f (records_of file) ≡ first f left
+  pub so_far : find f (records_of file) ≡ find f left
 
 pub searched_none : (f : Cached → Bool) (file : List ℕ) → is_well_formed file ≡ true → Searched f file 0
 searched_none f file h = record { left = records_of file; from = from_start file h; so_far = refl }
 
 module _ {f : Cached → Bool} {file : List ℕ} {at : ℕ} (g : Searched f file at) where
-  pub searched_all : length file ≤ at → first f (records_of file) ≡ none
-  unfolding first
-  searched_all h = g.so_far ∙ ap (first f) (none_left g.from (read_end file at h))
+  pub searched_all : length file ≤ at → find f (records_of file) ≡ None
+  searched_all h = g.so_far ∙ ap (find f) (none_left g.from (read_end file at h))
 
   pub searched_stands : at < length file → stands (read_at file at) ≡ true
   searched_stands h = still_stands g.from h
@@ -61,15 +61,13 @@ module _ {f : Cached → Bool} {file : List ℕ} {at : ℕ} (g : Searched f file
     searched_goes = within file at q
 
     module _ {found : Bool} (m : found ≡ f (cached_at file r.value)) where
-      pub searched_stops : found ≡ true → first f (records_of file) ≡ some (cached_at file r.value)
-      unfolding first
-      searched_stops e = g.so_far ∙ ap (first f) (one_left g.from q).are ∙ rw (sym m ∙ e)
+      pub searched_stops : found ≡ true → find f (records_of file) ≡ Some (cached_at file r.value)
+      searched_stops e = g.so_far ∙ ap (find f) (one_left g.from q).are ∙ rw (sym m ∙ e)
 
       pub searched_more : found ≡ false → Searched f file r.next
-      unfolding first
       searched_more e =
           let t = one_left g.from q in
-          record { left = t.rest; from = t.from; so_far = g.so_far ∙ ap (first f) t.are ∙ rw (sym m ∙ e) }
+          record { left = t.rest; from = t.from; so_far = g.so_far ∙ ap (find f) t.are ∙ rw (sym m ∙ e) }
 
 -- How far the search of the list has come, which is `count` PMKIDs in the octets s: none before number k has a record that matches.
 pub record Tried (cs : List Cached) (s : List ℕ) (count akm : ℕ) (reading : Tu) (k : ℕ) : Type 0 where
@@ -89,12 +87,12 @@ nothing_until e = let z : ◌≡◌ {A = ℕ} 0 1 = cc in omega arith
 
 module _ (k : ℕ) (rest : Choice) where
   at_found : (o : Option Cached) {end : Tu} → told o ≡ Match.Until end → entry (λ c. Choice.Chosen k (record { 0 = c.end })) rest o ≡ Choice.Chosen k end
-  at_found none e = absurd (nothing_until e)
-  at_found (some c) e = cc
+  at_found None e = absurd (nothing_until e)
+  at_found (Some c) e = cc
 
   at_nothing : (o : Option Cached) → told o ≡ Match.Nothing → entry (λ c. Choice.Chosen k (record { 0 = c.end })) rest o ≡ rest
-  at_nothing none e = refl
-  at_nothing (some c) e = absurd (nothing_until (sym e))
+  at_nothing None e = refl
+  at_nothing (Some c) e = absurd (nothing_until (sym e))
 
 module _ {cs : List Cached} {s : List ℕ} {count akm : ℕ} {reading : Tu} {k : ℕ} (g : Tried cs s count akm reading k) where
   module _ (h : k < count) where

@@ -1,8 +1,9 @@
 -- The search: the first PMKID of a list that has a record of that PMKID, the same AKM and an end later than the reading, with its first such record.
 use Rattle.std.specs.Prelude.{Bool, ◌&&◌, List, [], ◌∷◌, ℕ, ◌+◌, ltb, eqb}
-use Rattle.std.proofs.Math.Option.{Option}
+use Rattle.std.specs.Prelude.{Option}
 use Rattle.octets.specs.Equality.{same_octets}
-use Rattle.octets.specs.Search.{first, entry}
+use Rattle.std.specs.List.{find}
+use Rattle.octets.specs.Search.{entry}
 use Rattle.units.specs.declared.Tu.{Tu}
 use Rattle.cache.specs.declared.Match.{Match}
 use Rattle.cache.specs.declared.Choice.{Choice}
@@ -14,8 +15,7 @@ matches pmkid akm reading c = same_octets c.pmkid pmkid && (eqb c.akm akm && ltb
 
 -- the first such record
 unfoldable pub found_of : List Cached → List ℕ → ℕ → Tu → Option Cached
-unfolding first
-found_of cs pmkid akm reading = first (matches pmkid akm reading) cs
+found_of cs pmkid akm reading = find (matches pmkid akm reading) cs
 
 -- the first PMKID that has one, with that record's end; the list begins with number k
 unfoldable pub choice_from : ℕ → List Cached → List (List ℕ) → ℕ → Tu → Choice

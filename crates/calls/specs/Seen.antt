@@ -1,6 +1,6 @@
 -- What a search saw of the peer, and what a body gets by it.
 use Rattle.std.specs.Prelude.{Bool, true, false, List, ℕ}
-use Rattle.std.proofs.Math.Option.{Option, none, some}
+use Rattle.std.specs.Prelude.{Option, None, Some}
 use Rattle.elements.specs.Body.{body_of}
 use Rattle.peers.specs.declared.Found.{Found}
 use Rattle.peers.specs.declared.Found.TheVariants.{At, Free, Full}
@@ -11,9 +11,9 @@ use Rattle.rules.specs.Told.{Gets}
 
 -- this peer's live record or none, by what a search found and the record at that place
 abbrev pub seen : Found → Peer → Option Peer
-seen (At place) peer = some peer
-seen Free peer = none
-seen Full peer = none
+seen (At place) peer = Some peer
+seen Free peer = None
+seen Full peer = None
 
 abbrev pub is_full : Found → Bool
 is_full (At place) = false

@@ -2,7 +2,7 @@
 use mathlib.Core.Path.{◌≡◌, refl, sym, ap, ◌∙◌}
 use mathlib.Core.Bool.{Bool, true, false, ◌&&◌, ◌||◌}
 use mathlib.Core.List.{List, ◌++◌, append_assoc}
-use mathlib.Core.Option.{Option, none, some}
+use Rattle.std.specs.Prelude.{Option, None, Some}
 use Prim.Native.Nat.{ℕ, ◌-◌, ◌≤◌}
 use native.Mathlib.Omega.{arith}
 use lib.Dec.{eqb}
@@ -16,7 +16,7 @@ use Rattle.elements.specs.declared.Opened.{Opened}
 use Rattle.elements.specs.declared.Part.{Part}
 use Rattle.scan.specs.declared.Scan.{Scan}
 use Rattle.scan.specs.declared.Times.{Times}
-use Rattle.scan.specs.declared.Times.TheVariants.{None, One, More}
+use Rattle.scan.specs.declared.Times.TheVariants.{Never, One, More}
 use Rattle.elements.specs.Body.{body_of}
 use Rattle.scan.specs.Scan.{scan_of}
 use Rattle.elements.specs.Lies.{Lies}
@@ -48,8 +48,8 @@ key_part_lies body = opened (body_of body)
     grouped GroupEntry.NotInTable p l = nowhere_lies (length body)
 
     read : (f : Option Facts) → first_of body ≡ f → Lies 0 (length body) (key_by body f)
-    read (some facts) e = grouped (group_of facts.group) facts.key (first_lies body e).key
-    read none e = nowhere_lies (length body)
+    read (Some facts) e = grouped (group_of facts.group) facts.key (first_lies body e).key
+    read None e = nowhere_lies (length body)
 
     opened : (o : Opened) → Lies 0 (length body) (key_in body o)
     opened (Opened.Body h) = chosen (eqb h.algorithm 7 && eqb h.transaction 1) (key_by body (first_of body)) (read (first_of body) refl)
@@ -68,7 +68,7 @@ mic_in_lies body = opened (body_of body)
     chosen false m l = tt
 
     times : (t : Times) → LiesIf 0 (length body) t → MicLies (length body) (mic_at t)
-    times None l = tt
+    times Never l = tt
     times (One p) l = chosen (is_mic_length (p.end - p.start)) (At p) l
     times (More p) l = tt
 

@@ -14,7 +14,7 @@ use Rattle.elements.specs.declared.Opened.{Opened}
 use Rattle.elements.specs.declared.Part.{Part}
 use Rattle.scan.specs.declared.Scan.{Scan}
 use Rattle.scan.specs.declared.Times.{Times}
-use Rattle.scan.specs.declared.Times.TheVariants.{None, One, More}
+use Rattle.scan.specs.declared.Times.TheVariants.{Never, One, More}
 use Rattle.elements.specs.Body.{body_of}
 use Rattle.scan.specs.Scan.{scan_of}
 use Rattle.elements.specs.Walk.{walk_body}
@@ -38,7 +38,7 @@ mic_in_inside body = opened (body_of body)
     chosen b m i = either_way (MicInside body) b (λ e. i) (λ e. tt)
 
     times : (t : Times) → InsideIf (walk_body body) t → MicInside body (mic_at t)
-    times None i = tt
+    times Never i = tt
     times (One p) i = chosen (is_mic_length (p.end - p.start)) (At p) i
     times (More p) i = tt
 

@@ -1,11 +1,11 @@
 -- What the radio chip needs of a body: the key of a first frame, the MIC zeroed, the MIC set.
 use Rattle.std.specs.Prelude.{ℕ, ◌-◌, ◌≡◌, ◌&&◌, ◌||◌, List, ◌++◌, eqb, ltb, length, take, drop, replicate, if◌then◌else◌}
-use Rattle.std.proofs.Math.Option.{Option, none, some}
+use Rattle.std.specs.Prelude.{Option, None, Some}
 use Rattle.elements.specs.declared.Opened.{Opened}
 use Rattle.elements.specs.declared.Part.{Part}
 use Rattle.scan.specs.declared.Scan.{Scan}
 use Rattle.scan.specs.declared.Times.{Times}
-use Rattle.scan.specs.declared.Times.TheVariants.{None, One, More}
+use Rattle.scan.specs.declared.Times.TheVariants.{Never, One, More}
 use Rattle.elements.specs.Body.{body_of}
 use Rattle.scan.specs.Scan.{scan_of}
 use Rattle.suites.specs.declared.GroupEntry.{GroupEntry}
@@ -27,8 +27,8 @@ key_with body key (GroupEntry.In group) = if is_key_of group (content body key) 
 key_with body key GroupEntry.NotInTable = nowhere
 
 abbrev pub key_by : List ℕ → Option Facts → Part
-key_by body (some facts) = key_with body facts.key (group_of facts.group)
-key_by body none = nowhere
+key_by body (Some facts) = key_with body facts.key (group_of facts.group)
+key_by body None = nowhere
 
 abbrev pub key_in : List ℕ → Opened → Part
 key_in body (Opened.Body header) =
@@ -41,7 +41,7 @@ key_part body = key_in body (body_of body)
 
 -- The MIC can be set or zeroed if the body is 6 to 1,024 octets, algorithm 7, transaction 2 or 3, walks to its end and has exactly one MIC element, of a MIC's length.
 abbrev pub mic_at : Times → MicPlace
-mic_at None = Nowhere
+mic_at Never = Nowhere
 mic_at (One p) = if is_mic_length (p.end - p.start) then At p else Nowhere
 mic_at (More p) = Nowhere
 

@@ -2,7 +2,7 @@
 use mathlib.Core.Path.{◌≡◌, sym, ap, ◌∙◌}
 use mathlib.Core.Bool.{true, false}
 use mathlib.Core.List.{List, []}
-use mathlib.Core.Option.{none, some}
+use Rattle.std.specs.Prelude.{None, Some}
 use Prim.Native.Nat.{ℕ}
 use borrow.Author.Tests.{eq-eqb, ne_eqb}
 use Rattle.octets.specs.Equality.{same_octets}
@@ -20,7 +20,7 @@ use Rattle.rules.specs.OnePeer.{Outcome, unchanged, lost, becomes, installed_pee
 
 module _ (reading : Tu) (mic body : List ℕ) (status : ℕ) (p : Peer) where
   abbrev outcome : Outcome
-  outcome = third_frame reading mic body status (some p)
+  outcome = third_frame reading mic body status (Some p)
 
   pub third_installed : {end : Tu} → p.phase ≡ Installed end → unchanged Answer.NoExchange ≡ outcome
   third_installed h = sym (rw h)
@@ -40,10 +40,10 @@ module _ (reading : Tu) (mic body : List ℕ) (status : ℕ) (p : Peer) where
         by_mic : outcome ≡ third_mic reading mic body p (third_of body akm.mic)
         by_mic = by_akm ∙ ap (third_akm reading mic body p) listed
 
-        pub third_ill : third_of body akm.mic ≡ none → lost Answer.ThirdRefused ≡ outcome
+        pub third_ill : third_of body akm.mic ≡ None → lost Answer.ThirdRefused ≡ outcome
         third_ill h = sym (by_mic ∙ ap (third_mic reading mic body p) h)
 
-        module _ {part : Part} (read : third_of body akm.mic ≡ some part) where
+        module _ {part : Part} (read : third_of body akm.mic ≡ Some part) where
           pub third_unlike : same_octets (content body part) mic ≡ false → lost Answer.ThirdRefused ≡ outcome
           third_unlike h = sym (by_mic ∙ ap (third_mic reading mic body p) read ∙ rw h)
 

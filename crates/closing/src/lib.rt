@@ -2,7 +2,7 @@
 #![tactic(auto)]
 
 ghost use Rattle.std.specs.Prelude.{◌^◌, ◌≤◌, ◌≡◌};
-ghost use Rattle.std.proofs.Math.Option.{some};
+ghost use Rattle.std.specs.Prelude.{Some};
 ghost use Rattle.units.specs.Units.{in_tu};
 ghost use Rattle.peers.specs.declared.Phase.TheVariants.{Installed};
 ghost use Rattle.rules.specs.OnePeer.{after, third_frame};
@@ -26,7 +26,7 @@ fn installed(lifetime: Seconds, reading: Tu) -> Phase
 // What a third frame gets of a peer with a live record.
 pub fn answer(peer: Peer, reading: Tu, mic: &[u8], body: &[u8], status: u16) -> Verdict
     requires { reading.0 ≤ 2 ^ 48 }
-    ensures { Decides (third_frame reading mic.now body.now status (some peer)) result }
+    ensures { Decides (third_frame reading mic.now body.now status (Some peer)) result }
 {
     let phase = peer.phase;
     let Phase::Waiting(_) = phase else {

@@ -4,11 +4,11 @@ use mathlib.Core.Path.{◌≡◌, refl}
 use mathlib.Core.Bool.{false}
 use mathlib.Core.List.Memᴰ
 use mathlib.Core.List.{List, [], ◌∷◌}
-use mathlib.Core.Option.{none, some}
+use Rattle.std.specs.Prelude.{None, Some}
 use native.Mathlib.Omega.{arith}
 use lib.ListN.{replicate}
 use Rattle.octets.specs.Numbers.{le}
-use Rattle.octets.specs.Search.{first}
+use Rattle.std.specs.List.{find}
 use Rattle.elements.specs.Body.{body_of}
 use Rattle.scan.specs.Scan.{scan_of}
 use Rattle.suites.specs.Suite.{suite_at}
@@ -60,24 +60,24 @@ pub record Worked : Type 0 where
   -- up to the TU before its end
   pub held : Holds (receive opens ∷ look_up station (tu 5500) ∷ receive (closes 5999) ∷ []) (tu 3521623) key
   -- the same third frame again leaves it
-  pub again : (alone_after (receive opens ∷ receive (closes 5999) ∷ receive (closes 6000) ∷ [])).peer ≡ some key
+  pub again : (alone_after (receive opens ∷ receive (closes 5999) ∷ receive (closes 6000) ∷ [])).peer ≡ Some key
   -- a third frame at the deadline is late
-  pub late : (alone_after (receive opens ∷ receive (closes 6000) ∷ [])).peer ≡ none
-  pub removed_between : (alone_after (receive opens ∷ remove station (tu 5500) ∷ receive (closes 5999) ∷ [])).peer ≡ none
-  pub removed_since : (alone_after (receive opens ∷ receive (closes 5999) ∷ remove station (tu 6000) ∷ [])).peer ≡ none
+  pub late : (alone_after (receive opens ∷ receive (closes 6000) ∷ [])).peer ≡ None
+  pub removed_between : (alone_after (receive opens ∷ remove station (tu 5500) ∷ receive (closes 5999) ∷ [])).peer ≡ None
+  pub removed_since : (alone_after (receive opens ∷ receive (closes 5999) ∷ remove station (tu 6000) ∷ [])).peer ≡ None
   -- another first frame replaces the exchange, and its own deadline has passed
-  pub replaced : (alone_after (receive opens ∷ receive (frame 5500 400 opening) ∷ receive (closes 5999) ∷ [])).peer ≡ none
+  pub replaced : (alone_after (receive opens ∷ receive (frame 5500 400 opening) ∷ receive (closes 5999) ∷ [])).peer ≡ None
   -- a look-up ahead of time sets no latest reading
-  pub looked_ahead : alone_gets (look_up station (tu 60) ∷ remove station (tu 10) ∷ []) ≡ found 17 none ∷ removed 17 ∷ []
+  pub looked_ahead : alone_gets (look_up station (tu 60) ∷ remove station (tu 10) ∷ []) ≡ found 17 None ∷ removed 17 ∷ []
 
 pub worked : Worked
-unfolding receive_of is_well_formed records_of first body_of scan_of first_of third_of rsne_of parameters_of suite_at le akm_of cipher_of group_of is_key_of
+unfolding receive_of is_well_formed records_of body_of scan_of first_of third_of rsne_of parameters_of suite_at le akm_of cipher_of group_of is_key_of
 worked = record {
   served = can_be_served (station ∷ []) (omega arith) _ (Memᴰ.head refl, (Memᴰ.head refl, (Memᴰ.head refl, tt)))
       (omega arith, omega arith, (omega arith, omega arith, (omega arith, omega arith, tt)));
   held = record {
     before = [];
-    first = opens;
+    find = opens;
     between = look_up station (tu 5500) ∷ [];
     third = closes 5999;
     since = [];

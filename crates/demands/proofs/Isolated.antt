@@ -3,7 +3,7 @@ use Prim.Native.Nat.{ℕ, ◌≤◌}
 use mathlib.Core.Path.{◌≡◌, refl, sym, ap, subst, ◌∙◌}
 use mathlib.Core.Bool.{Bool, true, false}
 use mathlib.Core.List.{List, ◌∷◌, Memᴰ}
-use mathlib.Core.Option.{Option, none, some}
+use Rattle.std.specs.Prelude.{Option, None, Some}
 use native.Mathlib.Omega.{arith}
 use lib.ListN.{length}
 use Rattle.std.specs.Prelude.{if◌then◌else◌}
@@ -28,10 +28,10 @@ use Rattle.demands.proofs.Stepping.{Stepped, stepped}
 
 -- a record that is live later is live now
 live_twice : (o : Option Peer) (n m : Tu) → n.0 ≤ m.0 → live_at (live_at o n) m ≡ live_at o m
-live_twice none n m h = refl
-live_twice (some p) n m h = go (live p n) refl
+live_twice None n m h = refl
+live_twice (Some p) n m h = go (live p n) refl
   where
-    go : (b : Bool) → live p n ≡ b → live_at (if b then some p else none) m ≡ while_live p m
+    go : (b : Bool) → live p n ≡ b → live_at (if b then Some p else None) m ≡ while_live p m
     go true e = refl
     go false e = rw (dead_later p n m h e)
 

@@ -2,7 +2,7 @@
 use Prim.Native.Nat.{ℕ}
 use mathlib.Core.Path.{◌≡◌, refl, sym, subst, ◌∙◌}
 use mathlib.Core.List.{List, [], ◌∷◌, ◌++◌}
-use mathlib.Core.Option.{Option, none, some}
+use Rattle.std.specs.Prelude.{Option, None, Some}
 use lib.ListN.{length, drop, replicate}
 use Rattle.units.specs.declared.Tu.{Tu}
 use Rattle.elements.specs.Body.{body_of}
@@ -66,8 +66,8 @@ reception t answer reply call =
     record { received = record { table = t; answer = answer; length = length reply }; buffer = reply ++ drop (length reply) call.buffer }
 
 abbrev reception_by : Table → Call → Option Answer → Reception
-reception_by t call (some answer) = reception t answer [] call
-reception_by t call none =
+reception_by t call (Some answer) = reception t answer [] call
+reception_by t call None =
     let o = body_outcome t call in
     reception (settled t call.brought.reading call.brought.address o.leaves) o.answer o.reply call
 
@@ -88,21 +88,21 @@ module _ (t : Table) (l : Sixteen t) (call : Call) where
   placed = go (shows t n a) refl
     where
       go : (o : Option Peer) → shows t n a ≡ o → Placed call (full t n a) o
-      go none e = tt
-      go (some p) e = ((shown_is t n a e).address, full_shown t n a e)
+      go None e = tt
+      go (Some p) e = ((shown_is t n a e).address, full_shown t n a e)
 
   meets : Receives t call (receiver t call).buffer (receiver t call).received
   unfolding receive_of
   meets = go (checked t call) refl
     where
-      ruled_by : checked t call ≡ none → ruled t call ≡ body_outcome t call
+      ruled_by : checked t call ≡ None → ruled t call ≡ body_outcome t call
       ruled_by e = rw e
 
       go : (c : Option Answer) → checked t call ≡ c → Receives t call (reception_by t call c).buffer (reception_by t call c).received
-      go (some answer) e = received_early t call e
-      go none e =
+      go (Some answer) e = received_early t call e
+      go None e =
           let s = sound call (full t n a) (shows t n a) (body_of call.body) in
-          let r = reception_by t call none in
+          let r = reception_by t call None in
           subst (λ (o : Outcome). Answers t call o r.buffer r.received) (sym (ruled_by e))
           (record {
             number = refl;
@@ -113,8 +113,8 @@ module _ (t : Table) (l : Sixteen t) (call : Call) where
           })
 
   received_places : (c : Option Answer) → Sixteen (reception_by t call c).received.table
-  received_places (some answer) = l
-  received_places none = settled_places t l n a (body_outcome t call).leaves
+  received_places (Some answer) = l
+  received_places None = settled_places t l n a (body_outcome t call).leaves
 
 pub met : Met
 met = record { responder = receiver; meets = meets }
@@ -125,33 +125,33 @@ module _ (t : Table) (a : List ℕ) (n : Tu) where
   abbrev removed_by : Asked → Option Peer → Removed
   removed_by Asked.ClockOut own = record { table = t; answer = Removal.ClockOut }
   removed_by Asked.GroupAddress own = record { table = t; answer = Removal.GroupAddress }
-  removed_by Asked.Passed none = record { table = dated t n; answer = Removal.NoRecord }
-  removed_by Asked.Passed (some p) = record { table = settled t n a gone; answer = Removal.Removed }
+  removed_by Asked.Passed None = record { table = dated t n; answer = Removal.NoRecord }
+  removed_by Asked.Passed (Some p) = record { table = settled t n a gone; answer = Removal.Removed }
 
   removes_so : (check : Asked) → check ≡ asked_of t.latest n a → (own : Option Peer) → shows t n a ≡ own → Removes t a n (removed_by check own)
   unfolding settled
   removes_so Asked.ClockOut e own s = removes_clock t a n e refl
   removes_so Asked.GroupAddress e own s = removes_group t a n e refl
-  removes_so Asked.Passed e none s = removes_none t a n e refl s
-  removes_so Asked.Passed e (some p) s = removes_some t a n e refl s (drops a (dated t n) (settled t n a gone) refl refl)
+  removes_so Asked.Passed e None s = removes_none t a n e refl s
+  removes_so Asked.Passed e (Some p) s = removes_some t a n e refl s (drops a (dated t n) (settled t n a gone) refl refl)
 
   removed_places : Sixteen t → (check : Asked) (own : Option Peer) → Sixteen (removed_by check own).table
   removed_places l Asked.ClockOut own = l
   removed_places l Asked.GroupAddress own = l
-  removed_places l Asked.Passed none = l
-  removed_places l Asked.Passed (some p) = settled_places t l n a gone
+  removed_places l Asked.Passed None = l
+  removed_places l Asked.Passed (Some p) = settled_places t l n a gone
 
   abbrev looked_by : Asked → Option Peer → LookedUp
   looked_by Asked.ClockOut own = record { answer = LookUp.ClockOut; peer = vacant_peer }
   looked_by Asked.GroupAddress own = record { answer = LookUp.GroupAddress; peer = vacant_peer }
-  looked_by Asked.Passed none = record { answer = LookUp.NoRecord; peer = vacant_peer }
-  looked_by Asked.Passed (some p) = record { answer = LookUp.Shown; peer = p }
+  looked_by Asked.Passed None = record { answer = LookUp.NoRecord; peer = vacant_peer }
+  looked_by Asked.Passed (Some p) = record { answer = LookUp.Shown; peer = p }
 
   looks_so : (check : Asked) → check ≡ asked_of t.latest n a → (own : Option Peer) → shows t n a ≡ own → LooksUp t a n (looked_by check own)
   looks_so Asked.ClockOut e own s = looks_clock t a n e refl
   looks_so Asked.GroupAddress e own s = looks_group t a n e refl
-  looks_so Asked.Passed e none s = looks_none t a n e refl s
-  looks_so Asked.Passed e (some p) s = looks_some t a n e refl s
+  looks_so Asked.Passed e None s = looks_none t a n e refl s
+  looks_so Asked.Passed e (Some p) s = looks_some t a n e refl s
 
 -- A run ---------------------------------------------------------------------------------------------------------------------------------
 

@@ -3,7 +3,7 @@ use Prim.Native.Nat.{◌≤◌}
 use mathlib.Core.Path.{◌≡◌, refl, sym, ap, subst, ◌∙◌}
 use mathlib.Core.Bool.{true, false}
 use mathlib.Core.List.{List, [], ◌∷◌, ◌++◌}
-use mathlib.Core.Option.{some}
+use Rattle.std.specs.Prelude.{Some}
 use native.Mathlib.Omega.{arith}
 use Rattle.units.specs.declared.Tu.{Tu}
 use Rattle.units.specs.Units.{in_tu, clock_limit}
@@ -27,8 +27,8 @@ Quiet p n P = (s : Alone) (ask : Ask) → Alive s.peer (reading_of ask) p → s.
     → P ask → leaves s ask ≡ same
 
 -- calls that each leave it the same leave it so together
-stays_all : {p : Peer} {n : Tu} {P : Ask → Type 0} → Quiet p n P → (asks : List Ask) (s : Alone) (m k : Tu) → n.0 ≤ m.0 → s.peer ≡ some p → s.latest.0 ≤ m.0
-    → From m asks → (last_from m asks).0 ≤ k.0 → live p k ≡ true → Each P asks → (next_all s asks).peer ≡ some p
+stays_all : {p : Peer} {n : Tu} {P : Ask → Type 0} → Quiet p n P → (asks : List Ask) (s : Alone) (m k : Tu) → n.0 ≤ m.0 → s.peer ≡ Some p → s.latest.0 ≤ m.0
+    → From m asks → (last_from m asks).0 ≤ k.0 → live p k ≡ true → Each P asks → (next_all s asks).peer ≡ Some p
 stays_all quiet [] s m k h e l f b d i = e
 stays_all {p} quiet (ask ∷ asks) s m k h e l f b d i =
     let v : Alive s.peer (reading_of ask) p = record { is = e; alive = live_earlier p (reading_of ask) k (omega (arith, from_last (reading_of ask) asks f.2)) d } in
@@ -77,11 +77,11 @@ module _ {asks : List Ask} {n : Tu} {p : Peer} (h : Holds asks n p) where
       let l₂ : s₂.latest.0 ≤ finish.0 = omega (arith, date_all s₁ start h.between l₁ f₁.0, f₁.1.0) in
       let l₃ : s₃.latest.0 ≤ finish.0 = date_after s₂ (receive h.third) l₂ in
       let begun : start.0 ≤ finish.0 = omega (arith, from_last start h.between f₁.0, f₁.1.0) in
-      let e₁ : s₁.peer ≡ some h.exchange = ap (peer_after (live_at s₀.peer start)) h.accepted.made in
-      let e₂ : s₂.peer ≡ some h.exchange = stays_all spared h.between s₁ start finish (omega arith) e₁ l₁ f₁.0 f₁.1.0 in_time h.undisturbed in
-      let e₃ : s₃.peer ≡ some p = ap (peer_after (live_at s₂.peer finish)) (makes_dated s₂ (waiting_since h.first h.exchange) e₂ h.third l₂ begun f₁.1.1 h.third_accepted).made in
+      let e₁ : s₁.peer ≡ Some h.exchange = ap (peer_after (live_at s₀.peer start)) h.accepted.made in
+      let e₂ : s₂.peer ≡ Some h.exchange = stays_all spared h.between s₁ start finish (omega arith) e₁ l₁ f₁.0 f₁.1.0 in_time h.undisturbed in
+      let e₃ : s₃.peer ≡ Some p = ap (peer_after (live_at s₂.peer finish)) (makes_dated s₂ (waiting_since h.first h.exchange) e₂ h.third l₂ begun f₁.1.1 h.third_accepted).made in
       let last : (last_from finish h.since).0 ≤ n.0 = rw (h.split, last_append zero_tu h.before (receive h.first ∷ rest), last_append start h.between (receive h.third ∷ h.since)) at b in
-      let e₄ : (next_all s₃ h.since).peer ≡ some p = stays_all kept h.since s₃ finish n (omega arith) e₃ l₃ f₁.1.2 last lasts h.not_removed in
+      let e₄ : (next_all s₃ h.since).peer ≡ Some p = stays_all kept h.since s₃ finish n (omega arith) e₃ l₃ f₁.1.2 last lasts h.not_removed in
       record {
         is = rw (h.split, next_append unknown h.before (receive h.first ∷ rest), next_append s₁ h.between (receive h.third ∷ h.since)) e₄;
         alive = lasts;

@@ -2,7 +2,8 @@
 use Prim.Native.Nat.{ℕ, ◌<◌, ◌≤◌}
 use mathlib.Core.Path.{◌≡◌, refl, sym, ap, ◌∙◌}
 use mathlib.Core.Bool.{Bool, true, false, true≢false}
-use mathlib.Core.Option.{Option, none, some, some-injective, none-ne-some}
+use Rattle.std.specs.Prelude.{Option, None, Some}
+use Rattle.octets.proofs.Options.{some-injective, none-ne-some}
 use native.Mathlib.Omega.{arith}
 use borrow.Author.Tests.{ltb-true, lt-ltb}
 use Rattle.std.specs.Prelude.{if◌then◌else◌}
@@ -24,18 +25,18 @@ live_by p {phase} n e h = rw e (lt-ltb n.0 (until phase).0 h)
 
 -- the record is p, and live
 pub record Alive (o : Option Peer) (n : Tu) (p : Peer) : Type 0 where
-  pub is : o ≡ some p
+  pub is : o ≡ Some p
   pub alive : live p n ≡ true
 
-pub alive_is : (o : Option Peer) (n : Tu) {p : Peer} → live_at o n ≡ some p → Alive o n p
-alive_is none n {p} e = absurd (none-ne-some p e)
-alive_is (some q) n {p} e = go (live q n) refl e
+pub alive_is : (o : Option Peer) (n : Tu) {p : Peer} → live_at o n ≡ Some p → Alive o n p
+alive_is None n {p} e = absurd (none-ne-some p e)
+alive_is (Some q) n {p} e = go (live q n) refl e
   where
-    go : (b : Bool) → live q n ≡ b → (if b then some q else none) ≡ some p → Alive (some q) n p
+    go : (b : Bool) → live q n ≡ b → (if b then Some q else None) ≡ Some p → Alive (Some q) n p
     go true l e = record { is = e; alive = ap (λ (x : Peer). live x n) (sym (some-injective q p e)) ∙ l }
     go false l e = absurd (none-ne-some p e)
 
-pub alive_at : {o : Option Peer} {n : Tu} {p : Peer} → Alive o n p → live_at o n ≡ some p
+pub alive_at : {o : Option Peer} {n : Tu} {p : Peer} → Alive o n p → live_at o n ≡ Some p
 alive_at {n = n} w = rw (w.is, w.alive)
 
 -- an accepted first frame's record waits, and its address is no group's
@@ -63,7 +64,7 @@ module _ {s : Alone} (frame : Call) {p : Peer} where
       go (installed y q i e) = e ∙ ap (installed_peer frame.brought.reading) (some-injective y x (sym q ∙ alive_at v))
 
 -- only a removal ends an installed record before its end
-pub installed_stays : (s : Alone) (ask : Ask) (p : Peer) (end : Tu) → p.phase ≡ Installed end → live_at s.peer (reading_of ask) ≡ some p → is_removal ask ≡ false
+pub installed_stays : (s : Alone) (ask : Ask) (p : Peer) (end : Tu) → p.phase ≡ Installed end → live_at s.peer (reading_of ask) ≡ Some p → is_removal ask ≡ false
     → leaves s ask ≡ same
 installed_stays s (receive frame) p end e h r = go (kind_of frame s.latest _ (live_at s.peer frame.brought.reading))
   where

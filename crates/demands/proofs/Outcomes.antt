@@ -1,7 +1,7 @@
 -- What a receive can leave of a record: the same; none, of a waiting one; a waiting one; or that one, installed.
 use mathlib.Core.Path.{◌≡◌, refl, sym, ap, ◌∙◌}
 use mathlib.Core.Bool.{Bool, true, false, not}
-use mathlib.Core.Option.{Option, none, some}
+use Rattle.std.specs.Prelude.{Option, None, Some}
 use Prim.Native.Nat.{ℕ}
 use native.Mathlib.Omega.{arith}
 use borrow.Author.Tests.{not-false}
@@ -28,13 +28,13 @@ pub data Kind (call : Call) (own : Option Peer) (o : Outcome) : Type 0 where
   ends : is_installed own ≡ false → o.leaves ≡ gone → Kind call own o
   begins : (passed : Passed) → is_installed own ≡ false → is_group_address call.brought.address ≡ false → o.answer ≡ Answer.Accepted
       → o.leaves ≡ becomes (waiting_peer call.brought passed) → Kind call own o
-  installs : (p : Peer) → own ≡ some p → is_waiting p.phase ≡ true → o.answer ≡ Answer.Installed
+  installs : (p : Peer) → own ≡ Some p → is_waiting p.phase ≡ true → o.answer ≡ Answer.Installed
       → o.leaves ≡ becomes (installed_peer call.brought.reading p) → Kind call own o
 
 -- who waits is not installed
 not_installed : (own : Option Peer) → waits own ≡ true → is_installed own ≡ false
-not_installed none w = refl
-not_installed (some p) w = rw w
+not_installed None w = refl
+not_installed (Some p) w = rw w
 
 module _ (call : Call) where
   -- where a waiting record goes
@@ -58,21 +58,21 @@ module _ (call : Call) where
     first_kind = either_way (Kind call own) (is_installed own) (λ _. keeps refl) (λ i. first_steps i (steps call.brought call.cache call.body full))
 
   module _ (p : Peer) (w : is_waiting p.phase ≡ true) where
-    kind_of_mic : (third : Option Part) → Kind call (some p) (third_mic call.brought.reading call.mic call.body p third)
-    kind_of_mic (some part) =
-        either_way (Kind call (some p)) (same_octets (content call.body part) call.mic) (λ _. installs p refl w refl refl) (λ _. ends (not_installed (some p) w) refl)
-    kind_of_mic none = ends (not_installed (some p) w) refl
+    kind_of_mic : (third : Option Part) → Kind call (Some p) (third_mic call.brought.reading call.mic call.body p third)
+    kind_of_mic (Some part) =
+        either_way (Kind call (Some p)) (same_octets (content call.body part) call.mic) (λ _. installs p refl w refl refl) (λ _. ends (not_installed (Some p) w) refl)
+    kind_of_mic None = ends (not_installed (Some p) w) refl
 
-    kind_of_akm : (entry : AkmEntry) → Kind call (some p) (third_akm call.brought.reading call.mic call.body p entry)
+    kind_of_akm : (entry : AkmEntry) → Kind call (Some p) (third_akm call.brought.reading call.mic call.body p entry)
     kind_of_akm (AkmEntry.In akm) = kind_of_mic (third_of call.body akm.mic)
-    kind_of_akm AkmEntry.NotInTable = ends (not_installed (some p) w) refl
+    kind_of_akm AkmEntry.NotInTable = ends (not_installed (Some p) w) refl
 
   third_kind : (status : ℕ) (own : Option Peer) → Kind call own (third_frame call.brought.reading call.mic call.body status own)
-  third_kind status none = keeps refl
-  third_kind status (some p) =
-      either_way (Kind call (some p)) (not (is_waiting p.phase)) (λ _. keeps refl) λ i.
+  third_kind status None = keeps refl
+  third_kind status (Some p) =
+      either_way (Kind call (Some p)) (not (is_waiting p.phase)) (λ _. keeps refl) λ i.
       let w = not-false (is_waiting p.phase) i in
-      either_way (Kind call (some p)) (not (eqb status 0)) (λ _. ends (not_installed (some p) w) refl) λ _.
+      either_way (Kind call (Some p)) (not (eqb status 0)) (λ _. ends (not_installed (Some p) w) refl) λ _.
       kind_of_akm p w (akm_of p.agreed.akm)
 
   body_kind : is_group_address call.brought.address ≡ false → (opened : Opened) (full : Bool) (own : Option Peer) → Kind call own (on_body call opened full own)
@@ -88,13 +88,13 @@ module _ (call : Call) where
     where
       go : (c : Option Answer) → checks latest call.brought call.cache (length call.buffer) ≡ c
           → Kind call own (c or_else on_body call (body_of call.body) full own)
-      go (some answer) e = keeps refl
-      go none e = body_kind (checks_pass latest call.brought call.cache (length call.buffer) e).address (body_of call.body) full own
+      go (Some answer) e = keeps refl
+      go None e = body_kind (checks_pass latest call.brought call.cache (length call.buffer) e).address (body_of call.body) full own
 
 -- A record is made in two ways, each with its number.
 pub data Made (call : Call) (own : Option Peer) (number : ℕ) (p : Peer) : Type 0 where
   begun : (passed : Passed) → is_group_address call.brought.address ≡ false → number ≡ 0 → p ≡ waiting_peer call.brought passed → Made call own number p
-  installed : (x : Peer) → own ≡ some x → number ≡ 15 → p ≡ installed_peer call.brought.reading x → Made call own number p
+  installed : (x : Peer) → own ≡ Some x → number ≡ 15 → p ≡ installed_peer call.brought.reading x → Made call own number p
 
 pub made_of : {call : Call} {own : Option Peer} {o : Outcome} {number : ℕ} {p : Peer} → Kind call own o → answer_number o.answer ≡ number → o.leaves ≡ becomes p
     → Made call own number p

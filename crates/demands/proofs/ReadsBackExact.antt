@@ -2,7 +2,8 @@
 use mathlib.Core.Path.{◌≡◌, refl, sym, ap, ◌∙◌}
 use mathlib.Core.Bool.{Bool, true, false, ◌||◌, not, true≢false}
 use mathlib.Core.List.{[]}
-use mathlib.Core.Option.{Option, none, some, some-injective}
+use Rattle.std.specs.Prelude.{Option, None, Some}
+use Rattle.octets.proofs.Options.{some-injective}
 use Prim.Native.Nat.{ℕ}
 use native.Mathlib.Omega.{arith}
 use lib.Dec.{eqb}
@@ -41,22 +42,22 @@ is_else n = not (eqb n 0 || eqb n 6 || eqb n 11 || eqb n 15)
 
 -- the step that refused, where one did
 abbrev why_of : Answer → Option Refusal
-why_of Answer.Accepted = none
-why_of Answer.ClockOut = none
-why_of Answer.BufferShort = none
-why_of Answer.SettingsOut = none
-why_of Answer.GroupAddress = none
-why_of Answer.CacheIll = none
-why_of Answer.OwnKey = none
-why_of Answer.BodyLength = none
-why_of Answer.Algorithm = none
-why_of Answer.Transaction = none
-why_of Answer.PeerInstalled = none
-why_of (Answer.Refused why) = some why
-why_of Answer.StatusNotZero = none
-why_of Answer.NoExchange = none
-why_of Answer.ThirdRefused = none
-why_of Answer.Installed = none
+why_of Answer.Accepted = None
+why_of Answer.ClockOut = None
+why_of Answer.BufferShort = None
+why_of Answer.SettingsOut = None
+why_of Answer.GroupAddress = None
+why_of Answer.CacheIll = None
+why_of Answer.OwnKey = None
+why_of Answer.BodyLength = None
+why_of Answer.Algorithm = None
+why_of Answer.Transaction = None
+why_of Answer.PeerInstalled = None
+why_of (Answer.Refused why) = Some why
+why_of Answer.StatusNotZero = None
+why_of Answer.NoExchange = None
+why_of Answer.ThirdRefused = None
+why_of Answer.Installed = None
 
 same_why : {x y : Refusal} → Answer.Refused x ≡ Answer.Refused y → x ≡ y
 same_why {x} {y} e = some-injective x y (ap why_of e)
@@ -137,7 +138,7 @@ module _ (t : Table) (call : Call) where
           installs = λ n. absurd (omega (arith, n));
         })
 
-  module _ (passed : checked ≡ none) where
+  module _ (passed : checked ≡ None) where
     first_says : {status : ℕ} (algorithm : ℕ) → body_of call.body ≡ Opened.Body (record { algorithm = 7; transaction = 1; status = status })
         → Says (first_frame call.brought call.cache call.key call.body algorithm crowded own)
     first_says {status} algorithm opens =
@@ -147,15 +148,15 @@ module _ (t : Table) (call : Call) where
     third_says : (status : ℕ) (peer : Option Peer) → own ≡ peer
         → (status ≡ 0 → body_of call.body ≡ Opened.Body (record { algorithm = 7; transaction = 3; status = 0 }))
         → Says (third_frame call.brought.reading call.mic call.body status peer)
-    third_says status none shown opens = nothing refl
-    third_says status (some p) shown opens =
+    third_says status None shown opens = nothing refl
+    third_says status (Some p) shown opens =
         either_way Says (not (is_waiting p.phase)) (λ i. nothing refl) λ i.
         either_way Says (not (eqb status 0)) (λ z. nothing refl) λ z.
         by_akm (waiting p.phase (not-false (is_waiting p.phase) i)) (eqb-true status 0 (not-false (eqb status 0) z)) (akm_of p.agreed.akm) refl
       where
         by_mic : Waits p.phase → status ≡ 0 → (akm : Akm) → akm_of p.agreed.akm ≡ AkmEntry.In akm
             → (third : Option Part) → third_of call.body akm.mic ≡ third → Says (third_mic call.brought.reading call.mic call.body p third)
-        by_mic w z akm a (some part) r =
+        by_mic w z akm a (Some part) r =
             either_way Says (same_octets (content call.body part) call.mic)
             (λ m. record {
               accepted = λ n. absurd (omega (arith, n));
@@ -176,7 +177,7 @@ module _ (t : Table) (call : Call) where
               };
             })
             (λ m. nothing refl)
-        by_mic w z akm a none r = nothing refl
+        by_mic w z akm a None r = nothing refl
 
         by_akm : Waits p.phase → status ≡ 0 → (entry : AkmEntry) → akm_of p.agreed.akm ≡ entry
             → Says (third_akm call.brought.reading call.mic call.body p entry)
@@ -205,12 +206,12 @@ module _ (t : Table) (call : Call) where
   says = go checked refl
     where
       go : (c : Option Answer) → checked ≡ c → Says (c or_else on_body call (body_of call.body) crowded own)
-      go (some answer) e = nothing (early_else answer (checks_early t.latest call.brought call.cache (length call.buffer) e))
-      go none e = body_says e (body_of call.body) refl
+      go (Some answer) e = nothing (early_else answer (checks_early t.latest call.brought call.cache (length call.buffer) e))
+      go None e = body_says e (body_of call.body) refl
 
   -- From what was brought to the outcome --------------------------------------------------------------------------------------------------
 
-  ruled_body : checked ≡ none → ruled t call ≡ on_body call (body_of call.body) crowded own
+  ruled_body : checked ≡ None → ruled t call ≡ on_body call (body_of call.body) crowded own
   unfolding receive_of
   ruled_body c = rw c
 

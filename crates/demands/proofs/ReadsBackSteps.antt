@@ -2,7 +2,7 @@
 use mathlib.Core.Path.{◌≡◌, refl, sym, subst}
 use mathlib.Core.Bool.{Bool, true}
 use mathlib.Core.List.{List}
-use mathlib.Core.Option.{Option, none, some}
+use Rattle.std.specs.Prelude.{Option, None, Some}
 use Prim.Native.Nat.{ℕ, ◌*◌, ◌^◌, ◌<◌, ◌≤◌}
 use native.Mathlib.Omega.{arith}
 use lib.Dec.{ltb}
@@ -42,8 +42,8 @@ record Lists (s : List ℕ) : Type 0 where
   one : count ≤ 1
 
 lists : (suites : Suites) (group : Group) (pmkid : Option (List ℕ)) (lifetime : Seconds) → Sixteen pmkid → Lists (listed (passed_with suites group pmkid lifetime))
-lists suites group none lifetime h = record { count = 0; whole = refl; one = omega arith }
-lists suites group (some pmkid) lifetime h = record { count = 1; whole = omega (arith, h); one = omega arith }
+lists suites group None lifetime h = record { count = 0; whole = refl; one = omega arith }
+lists suites group (Some pmkid) lifetime h = record { count = 1; whole = omega (arith, h); one = omega arith }
 
 -- a lifetime that a second frame can tell
 record Tells (l : Seconds) : Type 0 where

@@ -2,11 +2,12 @@
 use mathlib.Core.Path.{◌≡◌, refl, sym, ap, subst, ◌∙◌}
 use mathlib.Core.Bool.{false≢true}
 use mathlib.Core.List.{List, [], ◌∷◌}
-use mathlib.Core.Option.{none, some, none-ne-some}
+use Rattle.std.specs.Prelude.{None, Some}
+use Rattle.octets.proofs.Options.{none-ne-some}
 use Prim.Native.Nat.{ℕ}
 use native.Mathlib.Omega.{arith}
 use lib.ListN.{get_or, replicate}
-use Rattle.octets.specs.Search.{first}
+use Rattle.std.specs.List.{find}
 use Rattle.peers.specs.declared.Peer.{Peer}
 use Rattle.peers.specs.declared.Phase.TheVariants.{Waiting}
 use Rattle.peers.specs.declared.Table.{Table}
@@ -32,12 +33,12 @@ waiting = record_of (Waiting (tu 6000))
 abbrev asking : ℕ → Call
 asking cipher = hears (first_body cipher 21 [])
 
-asked : (cipher : ℕ) → ruled empty (asking cipher) ≡ gets none (asking cipher)
-unfolding shows full others first count gets
+asked : (cipher : ℕ) → ruled empty (asking cipher) ≡ gets None (asking cipher)
+unfolding shows full others count gets
 asked cipher = refl
 
-told : ruled (holding waiting) (hears third_body) ≡ gets (some waiting) (hears third_body)
-unfolding shows full others first count gets
+told : ruled (holding waiting) (hears third_body) ≡ gets (Some waiting) (hears third_body)
+unfolding shows full others count gets
 told = refl
 
 module _ (f : Responder) (meets : Meets f) where
@@ -46,14 +47,14 @@ module _ (f : Responder) (meets : Meets f) where
       → Answers (holding p) call o (f (holding p) call).buffer (f (holding p) call).received
   by_rules p call e = subst (λ (o : Outcome). Answers (holding p) call o (f (holding p) call).buffer (f (holding p) call).received) e (meets (holding p) refl call)
 
-  first_answered : (cipher : ℕ) → Answers empty (asking cipher) (gets none (asking cipher)) (f empty (asking cipher)).buffer (f empty (asking cipher)).received
+  first_answered : (cipher : ℕ) → Answers empty (asking cipher) (gets None (asking cipher)) (f empty (asking cipher)).buffer (f empty (asking cipher)).received
   first_answered cipher = by_rules vacant_peer (asking cipher) (asked cipher)
 
   installs : answer_number (f (holding waiting) (hears third_body)).received.answer ≡ 15
   unfolding gets
   installs = ap answer_number (by_rules waiting (hears third_body) told).answer
 
-  accepted : (cipher : ℕ) → answer_number (gets none (asking cipher)).answer ≡ 0 → answer_number (f empty (asking cipher)).received.answer ≡ 0
+  accepted : (cipher : ℕ) → answer_number (gets None (asking cipher)).answer ≡ 0 → answer_number (f empty (asking cipher)).received.answer ≡ 0
   accepted cipher e = ap answer_number (first_answered cipher).answer ∙ e
 
   -- the cipher stands in the reply
@@ -75,12 +76,12 @@ module _ (f : Responder) (meets : Meets f) where
       omega arith
 
   -- the table then shows a waiting record
-  shown : shows (f empty (asking 4)).received.table (tu 5000) station ≡ shown_after none (tu 5000) (gets none (asking 4)).leaves
-  unfolding shows first
+  shown : shows (f empty (asking 4)).received.table (tu 5000) station ≡ shown_after None (tu 5000) (gets None (asking 4)).leaves
+  unfolding shows
   shown = (first_answered 4).settles.shown (tu 5000) (omega arith) station
 
   not_idle : ¬ RecordsNothing f
-  unfolding gets shows first
+  unfolding gets shows
   not_idle c = none-ne-some _ (sym (c empty (asking 4) (tu 5000) station) ∙ shown)
 
   not_at_once : ¬ InstallsAtOnce f

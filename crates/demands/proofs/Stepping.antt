@@ -3,7 +3,7 @@ use Prim.Native.Nat.{ℕ, ◌≤◌}
 use mathlib.Core.Path.{◌≡◌, refl, sym, ap, ap₂, ◌∙◌}
 use mathlib.Core.Bool.{Bool, true, false}
 use mathlib.Core.List.{List}
-use mathlib.Core.Option.{Option, none, some}
+use Rattle.std.specs.Prelude.{Option, None, Some}
 use native.Mathlib.Omega.{arith}
 use lib.Dec.{eqb}
 use lib.ListN.{length}
@@ -29,7 +29,7 @@ use Rattle.demands.proofs.Latest.{receive_dated, remove_dated, look_dated}
 use Rattle.demands.proofs.Outcomes.{Kind, keeps, ends, begins, installs, kind_of}
 use Rattle.demands.proofs.Room.{OfAddress}
 
-made_by : (call : Call) {own : Option Peer} {o : Outcome} → Kind call own o → ((p : Peer) → own ≡ some p → p.address ≡ call.brought.address)
+made_by : (call : Call) {own : Option Peer} {o : Outcome} → Kind call own o → ((p : Peer) → own ≡ Some p → p.address ≡ call.brought.address)
     → OfAddress call.brought.address o.leaves
 made_by call (keeps e) h = rw e tt
 made_by call (ends i e) h = rw e tt
@@ -67,7 +67,7 @@ module _ (t : Table) (n : Tu) (a : List ℕ) (h : t.latest.0 ≤ n.0) (k : n.0 �
   removal_made Removal.Removed = tt
 
   look_given : (answer : LookUp) (p : Peer) (number : ℕ) → IsSeen (shows t n a) p answer → look_number answer ≡ number
-      → given answer p ≡ (if eqb number 18 then shows t n a else none)
+      → given answer p ≡ (if eqb number 18 then shows t n a else None)
   look_given LookUp.ClockOut p number s e = rw (← e)
   look_given LookUp.GroupAddress p number s e = rw (← e)
   look_given LookUp.NoRecord p number s e = rw (← e)
@@ -92,7 +92,7 @@ module _ (t : Table) (n : Tu) (a : List ℕ) (h : t.latest.0 ≤ n.0) (k : n.0 �
     latest = h;
     alone = λ s l e.
         let q : look_number r.answer ≡ look_for s a n = w.number ∙ look_dated t.latest s.latest n h l k a (shows t n a) ∙ ap (look_up_of s.latest n a) e in
-        (ap₂ found q (look_given r.answer r.peer (look_for s a n) w.shown q ∙ ap (λ (o : Option Peer). if eqb (look_for s a n) 18 then o else none) e), refl);
+        (ap₂ found q (look_given r.answer r.peer (look_for s a n) w.shown q ∙ ap (λ (o : Option Peer). if eqb (look_for s a n) 18 then o else None) e), refl);
   }
 
 module _ (t : Table) (frame : Call) (h : t.latest.0 ≤ frame.brought.reading.0) (k : frame.brought.reading.0 ≤ clock_limit) where

@@ -3,7 +3,7 @@ use Prim.Native.Nat.{ℕ, ◌+◌, ◌<◌, ◌≤◌}
 use mathlib.Core.Path.{◌≡◌, refl, sym, ap, subst, ◌∙◌}
 use mathlib.Core.Bool.{true, false, false≢true}
 use mathlib.Core.List.{List, [], ◌∷◌, ◌++◌, append_assoc, append-nil}
-use mathlib.Core.Option.{Option, none, some}
+use Rattle.std.specs.Prelude.{Option, None, Some}
 use native.Mathlib.Omega.{arith}
 use borrow.Author.Tests.{ltb-true}
 use lib.Dec.{eqb}
@@ -63,8 +63,8 @@ module _ (a : List ℕ) where
   Told done n p (Installed end) = Keyed done p
 
   abbrev pub Story : List Ask → Tu → Option Peer → Type 0
-  Story done n none = Unit {0}
-  Story done n (some p) = Told done n p p.phase
+  Story done n None = Unit {0}
+  Story done n (Some p) = Told done n p p.phase
 
   waits_made : {done : List Ask} {n : Tu} {x : Peer} (w : Waits done n x) → FirstMade w.first x
   waits_made w = first_made w.first w.accepted
@@ -87,7 +87,7 @@ module _ (a : List ℕ) where
           → Story (done ++ (ask ∷ [])) (reading_of ask) (live_at s.peer (reading_of ask))
       stays ask h k r e = go s.peer refl w
         where
-          grow : (p : Peer) → s.peer ≡ some p → (phase : Phase) → Told done n p phase → Told (done ++ (ask ∷ [])) (reading_of ask) p phase
+          grow : (p : Peer) → s.peer ≡ Some p → (phase : Phase) → Told done n p phase → Told (done ++ (ask ∷ [])) (reading_of ask) p phase
           grow p q (Waiting deadline) w = record {
             before = w.before;
             first = w.first;
@@ -102,15 +102,15 @@ module _ (a : List ℕ) where
           grow p q (Installed end) w = record { holds = λ m d. holds_longer ask r (w.holds m d); no_group = w.no_group }
 
           go : (o : Option Peer) → s.peer ≡ o → Story done n o → Story (done ++ (ask ∷ [])) (reading_of ask) (live_at o (reading_of ask))
-          go none q w = tt
-          go (some p) q w = either_way (Story (done ++ (ask ∷ [])) (reading_of ask)) (live p (reading_of ask)) (λ _. grow p q p.phase w) (λ _. tt)
+          go None q w = tt
+          go (Some p) q w = either_way (Story (done ++ (ask ∷ [])) (reading_of ask)) (live p (reading_of ask)) (λ _. grow p q p.phase w) (λ _. tt)
 
       removed : (m : Tu) → n.0 ≤ m.0 → m.0 ≤ clock_limit → Story (done ++ (remove a m ∷ [])) m (next s (remove a m)).peer
       removed m h k = go (live_at s.peer m) refl
         where
           go : (o : Option Peer) → live_at s.peer m ≡ o → Story (done ++ (remove a m ∷ [])) m (peer_after o (removal_leaves (remove_of s.latest m a o)))
-          go none q = either_way (λ (left : Left). Story (done ++ (remove a m ∷ [])) m (peer_after none left)) (eqb (remove_of s.latest m a none) 16) (λ _. tt) (λ _. tt)
-          go (some p) q =
+          go None q = either_way (λ (left : Left). Story (done ++ (remove a m ∷ [])) m (peer_after None left)) (eqb (remove_of s.latest m a None) 16) (λ _. tt) (λ _. tt)
+          go (Some p) q =
               let g = told_of_no_group p p.phase (subst (Story done n) (alive_is s.peer m q).is w) in
               rw (clock_fits_within s.latest m (omega arith) k, g) tt
 

@@ -1,9 +1,9 @@
 -- Both sides of each edge: document 01's P1 to P10 as one table of what the definitions give and what it must be.
 use Rattle.std.specs.Prelude.{ℕ, ◌+◌, ◌*◌, ◌-◌, ◌/◌, ◌≡◌, Bool, true, false, List, [], ◌∷◌, ◌++◌, length, take, replicate, if◌then◌else◌}
-use Rattle.std.proofs.Math.Option.{Option, none, some}
+use Rattle.std.specs.Prelude.{Option, None, Some}
 use Rattle.octets.specs.Numbers.{le, octets}
 use Rattle.octets.specs.Pieces.{pieces}
-use Rattle.octets.specs.Search.{first}
+use Rattle.std.specs.List.{find}
 use Rattle.units.specs.declared.Tu.{Tu}
 use Rattle.units.specs.Units.{in_tu}
 use Rattle.elements.specs.Body.{body_of}
@@ -127,13 +127,13 @@ abbrev pub answered : Outcome → List ℕ
 answered o = answer_number o.answer ∷ beside (status_beside o.answer)
   where
     beside : Option ℕ → List ℕ
-    beside none = []
-    beside (some status) = status ∷ []
+    beside None = []
+    beside (Some status) = status ∷ []
 
 -- a receive, with room in the table and no reading before
 unfoldable pub gets : Option Peer → Call → Outcome
 unfolding
-    receive_of is_well_formed records_of choice_of pieces first body_of scan_of first_of third_of rsne_of timeout_of parameters_of suite_at le akm_of cipher_of group_of is_key_of
+    receive_of is_well_formed records_of choice_of pieces find body_of scan_of first_of third_of rsne_of timeout_of parameters_of suite_at le akm_of cipher_of group_of is_key_of
     header_octets second_octets rsne_octets timeout_octets parameters_octets mic_octets suite_octets octets
 gets own call = receive_of (tu 0) false own call
 
@@ -168,19 +168,19 @@ edges =
     ∷ (P 5 ∶ writes 0 ∷ whether (reads 0 25) ∷ whether (reads 0 26) ∷ whether (reads 0 27) ∷ [] is 26 ∷ 0 ∷ 1 ∷ 0 ∷ [])
     ∷ (P 5 ∶ writes 14 ∷ whether (reads 14 249) ∷ whether (reads 14 250) ∷ whether (reads 14 251) ∷ [] is 250 ∷ 0 ∷ 1 ∷ 0 ∷ [])
     -- the length of the second frame
-    ∷ (P 6 ∶ length (gets none (asks station 148 short_key [] (first_body 4 21 []))).reply ∷ [] is 100 ∷ [])
-    ∷ (P 6 ∶ length (gets none (asks station 148 long_key (cached_under 8) (first_body 4 8 pmkid))).reply ∷ [] is 148 ∷ [])
+    ∷ (P 6 ∶ length (gets None (asks station 148 short_key [] (first_body 4 21 []))).reply ∷ [] is 100 ∷ [])
+    ∷ (P 6 ∶ length (gets None (asks station 148 long_key (cached_under 8) (first_body 4 8 pmkid))).reply ∷ [] is 148 ∷ [])
     -- that longest frame, with a reply buffer of 147 octets and of 148
-    ∷ (P 7 ∶ answers none (asks station 147 long_key (cached_under 8) (first_body 4 8 pmkid) ∷ []) is 2 ∷ [])
-    ∷ (P 7 ∶ answers none (asks station 148 long_key (cached_under 8) (first_body 4 8 pmkid) ∷ []) is 0 ∷ [])
+    ∷ (P 7 ∶ answers None (asks station 147 long_key (cached_under 8) (first_body 4 8 pmkid) ∷ []) is 2 ∷ [])
+    ∷ (P 7 ∶ answers None (asks station 148 long_key (cached_under 8) (first_body 4 8 pmkid) ∷ []) is 0 ∷ [])
     -- the address's first octet
-    ∷ (P 8 ∶ answers none (asks (0x01 ∷ replicate 5 0) 148 short_key [] (first_body 4 21 []) ∷ []) is 4 ∷ [])
-    ∷ (P 8 ∶ answers none (asks (0x02 ∷ replicate 5 0) 148 short_key [] (first_body 4 21 []) ∷ []) is 0 ∷ [])
+    ∷ (P 8 ∶ answers None (asks (0x01 ∷ replicate 5 0) 148 short_key [] (first_body 4 21 []) ∷ []) is 4 ∷ [])
+    ∷ (P 8 ∶ answers None (asks (0x02 ∷ replicate 5 0) 148 short_key [] (first_body 4 21 []) ∷ []) is 0 ∷ [])
     -- a PMKID cached under AKM 6
-    ∷ (P 9 ∶ answers none (asks station 148 short_key (cached_under 6) (first_body 4 8 pmkid) ∷ []) is 11 ∷ 53 ∷ [])
-    ∷ (P 9 ∶ answers none (asks station 148 short_key (cached_under 6) (first_body 4 6 pmkid) ∷ []) is 0 ∷ [])
+    ∷ (P 9 ∶ answers None (asks station 148 short_key (cached_under 6) (first_body 4 8 pmkid) ∷ []) is 11 ∷ 53 ∷ [])
+    ∷ (P 9 ∶ answers None (asks station 148 short_key (cached_under 6) (first_body 4 6 pmkid) ∷ []) is 0 ∷ [])
     -- after a first frame the same third frame twice, which leaves the peer installed: a first frame is answered 10
-    ∷ (P 10 ∶ answers none (hears (first_body 4 21 []) ∷ hears third_body ∷ hears third_body ∷ hears (first_body 4 21 []) ∷ []) is 0 ∷ 15 ∷ 13 ∷ 10 ∷ [])
+    ∷ (P 10 ∶ answers None (hears (first_body 4 21 []) ∷ hears third_body ∷ hears third_body ∷ hears (first_body 4 21 []) ∷ []) is 0 ∷ 15 ∷ 13 ∷ 10 ∷ [])
     ∷ []
 
 abbrev pub AllHold : List Edge → Type 0

@@ -1,6 +1,6 @@
 -- The installed key: at which moments an address holds one, told by its own calls and their readings.
 use Rattle.std.specs.Prelude.{ℕ, ◌+◌, ◌<◌, ◌≤◌, ◌≡◌, Bool, true, false, List, ◌∷◌, ◌++◌, ◌↔◌}
-use Rattle.std.proofs.Math.Option.{some}
+use Rattle.std.specs.Prelude.{Some}
 use Rattle.units.specs.declared.Tu.{Tu}
 use Rattle.units.specs.Units.{in_tu}
 use Rattle.peers.specs.declared.Peer.{Peer}
@@ -15,7 +15,7 @@ use Rattle.demands.specs.Served.{last_reading, Served, asks_of}
 -- the table shows p for the address, and its phase is installed
 pub record HasKey (t : Table) (n : Tu) (a : List ℕ) (p : Peer) : Type 0 where
   pub end : Tu
-  pub shown : shows t n a ≡ some p
+  pub shown : shows t n a ≡ Some p
   pub phase : p.phase ≡ Installed end
 
 -- the one-peer rules answer a frame with this number, and make this record
@@ -25,7 +25,7 @@ pub record Makes (number : ℕ) (s : Alone) (frame : Call) (p : Peer) : Type 0 w
 
 -- a peer whose exchange waits since its first frame
 abbrev pub waiting_since : Call → Peer → Alone
-waiting_since first exchange = record { latest = first.brought.reading; peer = some exchange }
+waiting_since first exchange = record { latest = first.brought.reading; peer = Some exchange }
 
 -- a call that neither ends nor replaces the exchange
 abbrev pub Spares : Call → Peer → Ask → Type 0

@@ -1,6 +1,6 @@
 -- What receive accepts, exactly; and its reply, read by the layouts of every frame.
 use Rattle.std.specs.Prelude.{◌≡◌, Bool, true, false, List, ◌↔◌, ℕ, length, take, replicate}
-use Rattle.std.proofs.Math.Option.{none, some}
+use Rattle.std.specs.Prelude.{None, Some}
 use Rattle.units.specs.declared.Tu.{Tu}
 use Rattle.elements.specs.declared.Opened.{Opened}
 use Rattle.elements.specs.declared.Part.{Part}
@@ -28,7 +28,7 @@ use Rattle.platform.specs.Promises.{Receives}
 
 -- a first frame that comes to its steps
 pub record FirstFrame (t : Table) (call : Call) : Type 0 where
-  pub checked : checks t.latest call.brought call.cache (length call.buffer) ≡ none
+  pub checked : checks t.latest call.brought call.cache (length call.buffer) ≡ None
   pub status : ℕ
   pub opens : body_of call.body ≡ Opened.Body (record { algorithm = 7; transaction = 1; status = status })
   pub free : is_installed (shows t call.brought.reading call.brought.address) ≡ false
@@ -51,16 +51,16 @@ pub record RefusesFirst (why : Refusal) (t : Table) (call : Call) : Type 0 where
 
 -- a third frame of status 0 and of a waiting peer, well-formed, whose MIC is the lent one
 pub record AcceptsThird (t : Table) (call : Call) : Type 0 where
-  pub checked : checks t.latest call.brought call.cache (length call.buffer) ≡ none
+  pub checked : checks t.latest call.brought call.cache (length call.buffer) ≡ None
   pub opens : body_of call.body ≡ Opened.Body (record { algorithm = 7; transaction = 3; status = 0 })
   pub peer : Peer
-  pub shown : shows t call.brought.reading call.brought.address ≡ some peer
+  pub shown : shows t call.brought.reading call.brought.address ≡ Some peer
   pub deadline : Tu
   pub waiting : peer.phase ≡ Waiting deadline
   pub akm : Akm
   pub listed : akm_of peer.agreed.akm ≡ AkmEntry.In akm
   pub part : Part
-  pub reads : third_of call.body akm.mic ≡ some part
+  pub reads : third_of call.body akm.mic ≡ Some part
   pub mic : content call.body part ≡ call.mic
 
 -- the answers 0, 6, 11 by the step that refuses, and 15
@@ -78,11 +78,11 @@ AcceptanceIsExact = (t : Table) (call : Call) (after : List ℕ) (r : Received) 
 -- a second frame of status 0 with the first frame's cipher, AKM and group, the chosen PMKID or none, the smaller lifetime, our own key and a MIC of zeros
 pub record SecondFrame (t : Table) (call : Call) (reply : List ℕ) : Type 0 where
   pub first : Facts
-  pub read : first_of call.body ≡ some first
+  pub read : first_of call.body ≡ Some first
   pub passed : Passed
   pub passes : stepped t call ≡ pass passed
   pub reads : second_of reply
-      ≡ some (record {
+      ≡ Some (record {
         algorithm = 7;
         transaction = 2;
         status = 0;

@@ -1,7 +1,7 @@
 -- What a host asks of a unit, call by call, and every run that the unit's promises allow.
 use Rattle.std.specs.Prelude.{ℕ, ◌≤◌, ◌≡◌, length, if◌then◌else◌}
 use mathlib.Core.List.{List, [], ◌∷◌, Memᴰ}
-use Rattle.std.proofs.Math.Option.{Option, none, some}
+use Rattle.std.specs.Prelude.{Option, None, Some}
 use Rattle.octets.specs.Equality.{same_octets}
 use Rattle.octets.specs.Search.{Each}
 use Rattle.units.specs.declared.Tu.{Tu}
@@ -20,10 +20,10 @@ use Rattle.platform.specs.Promises.{Receives, Removes, LooksUp}
 
 -- the record that a look-up gives: one beside 18, else none
 abbrev pub given : LookUp → Peer → Option Peer
-given LookUp.ClockOut p = none
-given LookUp.GroupAddress p = none
-given LookUp.NoRecord p = none
-given LookUp.Shown p = some p
+given LookUp.ClockOut p = None
+given LookUp.GroupAddress p = None
+given LookUp.NoRecord p = None
+given LookUp.Shown p = Some p
 
 -- a table of sixteen places, as every one is that the operations make
 abbrev pub Sixteen : Table → Type 0

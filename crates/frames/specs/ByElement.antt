@@ -1,6 +1,6 @@
 -- The steps of a frame's definition, gathered by element: what each says, by how often it stands in a body. So the code reads a body.
 use Rattle.std.specs.Prelude.{ℕ, ◌-◌, List, eqb, ltb}
-use Rattle.std.proofs.Math.Option.{Option, none, some}
+use Rattle.std.specs.Prelude.{Option, None, Some}
 use Rattle.octets.specs.Maybe.{◌>>=◌}
 use Rattle.elements.specs.declared.Part.{Part}
 use Rattle.scan.specs.declared.Times.{Times}
@@ -18,11 +18,11 @@ abbrev pub rsne_in : List ℕ → Times → Option Rsne
 rsne_in body times = do
   at ← once times
   rsne ← is_rsne (rsne_of (content body at))
-  some (rsne_from at rsne)
+  Some (rsne_from at rsne)
 
 abbrev pub is_lifetime_reading : LifetimeReading → Option Lifetime
-is_lifetime_reading (LifetimeReading.Is lifetime) = some lifetime
-is_lifetime_reading LifetimeReading.Ill = none
+is_lifetime_reading (LifetimeReading.Is lifetime) = Some lifetime
+is_lifetime_reading LifetimeReading.Ill = None
 
 abbrev pub lifetime_in : List ℕ → Times → Option Lifetime
 lifetime_in body times = do
@@ -31,15 +31,15 @@ lifetime_in body times = do
 
 -- PASN Parameters of a first frame, which offer a key: the format, the group, and the key as a part of the body
 abbrev pub is_offered : Offered → Option (ℕ × ℕ × Part)
-is_offered (Offered.Key format group key) = some (format, group, key)
-is_offered Offered.Ill = none
+is_offered (Offered.Key format group key) = Some (format, group, key)
+is_offered Offered.Ill = None
 
 abbrev pub offered_in : List ℕ → Times → Option (ℕ × ℕ × Part)
 offered_in body times = do
   at ← once times
   parameters ← is_parameters (parameters_of Station (content body (extended at)))
   (group, key) ← is_key parameters.offer
-  some (parameters.format, group, shifted (extended at).start key)
+  Some (parameters.format, group, shifted (extended at).start key)
 
 -- Wrapped Data at most once, the format not reserved, and there as it says
 abbrev pub wrapped_in : ℕ → Times → Option (Unit {0})
@@ -62,4 +62,4 @@ abbrev pub mic_in : Times → ℕ → Option Part
 mic_in times n = do
   at ← once times
   _ ← holds (eqb (at.end - at.start) n)
-  some at
+  Some at

@@ -1,12 +1,12 @@
 -- What the frames' definitions have in common: steps that find something or nothing, and what the elements of a body say.
 use Rattle.std.specs.Prelude.{ℕ, ◌+◌, ◌-◌, Bool, true, false, List, take, drop}
-use Rattle.std.proofs.Math.Option.{Option, none, some}
+use Rattle.std.specs.Prelude.{Option, None, Some}
 use Rattle.units.specs.declared.Seconds.{Seconds}
 use Rattle.elements.specs.declared.Part.{Part}
 use Rattle.scan.specs.declared.Places.{Places}
 use Rattle.scan.specs.declared.Scan.{Scan}
 use Rattle.scan.specs.declared.Times.{Times}
-use Rattle.scan.specs.declared.Times.TheVariants.{None, One, More}
+use Rattle.scan.specs.declared.Times.TheVariants.{Never, One, More}
 use Rattle.parameters.specs.declared.Comeback.{Comeback}
 use Rattle.parameters.specs.declared.Offer.{Offer}
 use Rattle.parameters.specs.declared.Parameters.{Parameters}
@@ -29,60 +29,60 @@ extended p = record { start = p.start + 1; end = p.end }
 
 -- a test that is passed
 abbrev pub holds : Bool → Option (Unit {0})
-holds true = some tt
-holds false = none
+holds true = Some tt
+holds false = None
 
 -- a walk that comes to its end
 abbrev pub is_walked : Scan → Option Places
-is_walked (Scan.Walked places) = some places
-is_walked (Scan.Failed place) = none
+is_walked (Scan.Walked places) = Some places
+is_walked (Scan.Failed place) = None
 
 -- an element that is there exactly once
 abbrev pub once : Times → Option Part
-once None = none
-once (One part) = some part
-once (More part) = none
+once Never = None
+once (One part) = Some part
+once (More part) = None
 
 -- an element that is there at most once: its content, or that it is not there
 abbrev pub at_most_once : Times → Option (Option Part)
-at_most_once None = some none
-at_most_once (One part) = some (some part)
-at_most_once (More part) = none
+at_most_once Never = Some None
+at_most_once (One part) = Some (Some part)
+at_most_once (More part) = None
 
 -- an element that is not there
 abbrev pub never : Times → Option (Unit {0})
-never None = some tt
-never (One part) = none
-never (More part) = none
+never Never = Some tt
+never (One part) = None
+never (More part) = None
 
 -- contents that are well-formed
 abbrev pub is_rsne : rsne.Reading → Option Rsne
-is_rsne (rsne.Reading.Is r) = some r
-is_rsne rsne.Reading.Ill = none
+is_rsne (rsne.Reading.Is r) = Some r
+is_rsne rsne.Reading.Ill = None
 
 abbrev pub is_lifetime : Timeout → Option Seconds
-is_lifetime (Timeout.Lifetime seconds) = some seconds
-is_lifetime Timeout.Ill = none
+is_lifetime (Timeout.Lifetime seconds) = Some seconds
+is_lifetime Timeout.Ill = None
 
 abbrev pub is_parameters : parameters.Reading → Option Parameters
-is_parameters (parameters.Reading.Is p) = some p
-is_parameters parameters.Reading.Ill = none
+is_parameters (parameters.Reading.Is p) = Some p
+is_parameters parameters.Reading.Ill = None
 
 -- B0 clear: no comeback information
 abbrev pub no_comeback : Comeback → Option (Unit {0})
-no_comeback Comeback.Absent = some tt
-no_comeback (Comeback.Cookie cookie) = none
-no_comeback (Comeback.After after cookie) = none
+no_comeback Comeback.Absent = Some tt
+no_comeback (Comeback.Cookie cookie) = None
+no_comeback (Comeback.After after cookie) = None
 
 -- B1 set: a group and a key
 abbrev pub is_key : Offer → Option (ℕ × Part)
-is_key (Offer.Key group key) = some (group, key)
-is_key Offer.Absent = none
+is_key (Offer.Key group key) = Some (group, key)
+is_key Offer.Absent = None
 
 -- B1 clear
 abbrev pub no_key : Offer → Option (Unit {0})
-no_key (Offer.Key group key) = none
-no_key Offer.Absent = some tt
+no_key (Offer.Key group key) = None
+no_key Offer.Absent = Some tt
 
 -- an RSNE whose content is a part of the body, its PMKIDs told as a part of the body
 abbrev pub rsne_from : Part → Rsne → Rsne

@@ -1,7 +1,7 @@
 -- The first frame. Step 1 refuses it: walk fails; a Fragment; RSNE, Timeout, PASN Parameters or Wrapped Data twice; RSNE or PASN Parameters missing; one of
 -- these ill-formed; wrapped format 4 or more; Wrapped Data present with format 0 or absent with 1 to 3; B1 clear. The status is ignored, and so is MIC.
 use Rattle.std.specs.Prelude.{ℕ, Bool, not, List, eqb, ltb}
-use Rattle.std.proofs.Math.Option.{Option, none, some}
+use Rattle.std.specs.Prelude.{Option, None, Some}
 use Rattle.octets.specs.Maybe.{◌>>=◌}
 use Rattle.elements.specs.declared.Part.{Part}
 use Rattle.scan.specs.Scan.{scan_of}
@@ -17,15 +17,15 @@ use Rattle.frames.specs.Contents.{content, shifted, extended, holds, is_walked, 
 
 -- the lifetime that a Timeout Interval asks for, where there is one
 abbrev pub lifetime_at : List ℕ → Option Part → Option Lifetime
-lifetime_at body none = some Lifetime.Unasked
-lifetime_at body (some at) = do
+lifetime_at body None = Some Lifetime.Unasked
+lifetime_at body (Some at) = do
   seconds ← is_lifetime (timeout_of (content body at))
-  some (Lifetime.Asked seconds)
+  Some (Lifetime.Asked seconds)
 
 -- whether Wrapped Data is there as the format says
 abbrev pub is_wrapped : ℕ → Option Part → Bool
-is_wrapped format none = eqb format 0
-is_wrapped format (some at) = not (eqb format 0)
+is_wrapped format None = eqb format 0
+is_wrapped format (Some at) = not (eqb format 0)
 
 unfoldable pub first_of : List ℕ → Option Facts
 first_of body = do
@@ -41,7 +41,7 @@ first_of body = do
   _ ← holds (ltb parameters.format 4)
   _ ← holds (is_wrapped parameters.format at_wrapped)
   (group, key) ← is_key parameters.offer
-  some (record {
+  Some (record {
     rsne = rsne_from at_rsne rsne;
     lifetime = lifetime;
     format = parameters.format;
@@ -51,8 +51,8 @@ first_of body = do
 
 -- what the code tells
 abbrev pub is_first : First → Option Facts
-is_first (First.Is facts) = some facts
-is_first First.Ill = none
+is_first (First.Is facts) = Some facts
+is_first First.Ill = None
 
 -- the parts that a first frame tells lie within n octets
 pub record FactsLie (n : ℕ) (facts : Facts) : Type 0 where

@@ -1,7 +1,7 @@
 -- The third frame, but for the comparison of its MIC, which has n octets. Refused: walk fails; a Fragment; PASN Parameters or MIC missing or twice; Parameters
 -- ill-formed, B0 or B1 set or format not 0; Wrapped Data present; MIC length not n. RSNE and Timeout are ignored.
 use Rattle.std.specs.Prelude.{ℕ, ◌-◌, List, eqb}
-use Rattle.std.proofs.Math.Option.{Option, none, some}
+use Rattle.std.specs.Prelude.{Option, None, Some}
 use Rattle.octets.specs.Maybe.{◌>>=◌}
 use Rattle.elements.specs.declared.Part.{Part}
 use Rattle.scan.specs.Scan.{scan_of}
@@ -23,9 +23,9 @@ third_of body n = do
   _ ← holds (eqb parameters.format 0)
   _ ← never places.wrapped
   _ ← holds (eqb (at_mic.end - at_mic.start) n)
-  some at_mic
+  Some at_mic
 
 -- what the code tells
 abbrev pub is_third : Third → Option Part
-is_third (Third.Mic part) = some part
-is_third Third.Ill = none
+is_third (Third.Mic part) = Some part
+is_third Third.Ill = None

@@ -55,7 +55,7 @@ pub fn read_lifetime(body: &[u8], t: Times) -> LifetimeReading
     ensures { is_lifetime_reading result ≡ lifetime_in body.now t }
 {
     match t {
-        Times::None => LifetimeReading::Is(Lifetime::Unasked),
+        Times::Never => LifetimeReading::Is(Lifetime::Unasked),
         Times::More(_) => LifetimeReading::Ill,
         Times::One(at) => {
             let start = at.start;

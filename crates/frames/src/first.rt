@@ -67,7 +67,7 @@ fn wrapped_fits(format: u8, wrapped: Times) -> bool
     ensures { holds result ≡ wrapped_in format wrapped }
 {
     match wrapped {
-        Times::None => format == 0,
+        Times::Never => format == 0,
         Times::One(_) => {
             if format == 0 {
                 return false;
@@ -86,7 +86,7 @@ pub fn read(body: &[u8]) -> First
         return First::Ill;
     };
     let fragment = p.fragment;
-    let Times::None = fragment else {
+    let Times::Never = fragment else {
         return First::Ill;
     };
     let rsne = p.rsne;

@@ -62,11 +62,11 @@ pub fn read(body: &[u8], n: usize) -> Third
         return Third::Ill;
     };
     let fragment = p.fragment;
-    let Times::None = fragment else {
+    let Times::Never = fragment else {
         return Third::Ill;
     };
     let wrapped = p.wrapped;
-    let Times::None = wrapped else {
+    let Times::Never = wrapped else {
         return Third::Ill;
     };
     let parameters = p.parameters;

@@ -1,6 +1,6 @@
 -- What a host's numbers mean, and the numbers that it is told.
 use Rattle.std.specs.Prelude.{ℕ}
-use Rattle.std.proofs.Math.Option.{Option, none, some}
+use Rattle.std.specs.Prelude.{Option, None, Some}
 use Rattle.rules.specs.declared.Answer.{Answer}
 use Rattle.rules.specs.declared.Brought.{Brought}
 use Rattle.rules.specs.declared.Settings.{Settings}
@@ -28,8 +28,8 @@ brought_of call = record {
 
 -- the status beside 11, and 0 beside any other answer
 abbrev pub or_zero : Option ℕ → ℕ
-or_zero none = 0
-or_zero (some n) = n
+or_zero None = 0
+or_zero (Some n) = n
 
 abbrev pub status_number : Answer → ℕ
 status_number answer = or_zero (status_beside answer)

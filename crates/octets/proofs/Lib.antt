@@ -1,3 +1,4 @@
+pub mod Options
 pub mod Cases
 pub mod Choice
 pub mod Equality

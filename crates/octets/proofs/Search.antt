@@ -3,36 +3,34 @@ use Prim.Native.Nat.{ℕ, ◌+◌, ◌≤◌, ◌<◌}
 use mathlib.Core.Path.{◌≡◌, refl, sym, ap, ◌∙◌}
 use mathlib.Core.Bool.{Bool, true, false, ◌&&◌, false≢true, cond}
 use mathlib.Core.List.{List, [], ◌∷◌}
-use mathlib.Core.Option.{none, some, some-injective, none-ne-some}
+use Rattle.std.specs.Prelude.{None, Some}
+use Rattle.octets.proofs.Options.{some-injective, none-ne-some}
 use native.Mathlib.Numerals.{add-one}
 use lib.ListN.{length, get_or, drop, drop_of_length-le}
 use lib.Seq.{drop-cons}
-use Rattle.octets.specs.Search.{first, every}
+use Rattle.std.specs.List.{find, list_all}
 
-module _ {ℓ} {A : Type ℓ} (f : A → Bool) (xs : List A) (i : ℕ) (d : A) where
+module _ {A : Type 0} (f : A → Bool) (xs : List A) (i : ℕ) (d : A) where
   module _ (h : i < length xs) where
-    first_step : first f (drop i xs) ≡ cond (f (get_or xs i d)) (some (get_or xs i d)) (first f (drop (i + 1) xs))
-    unfolding first
+    first_step : find f (drop i xs) ≡ cond (f (get_or xs i d)) (Some (get_or xs i d)) (find f (drop (i + 1) xs))
     first_step = rw (add-one, drop-cons xs i d h)
 
-    pub first_stops : f (get_or xs i d) ≡ true → first f xs ≡ first f (drop i xs) → first f xs ≡ some (get_or xs i d)
+    pub first_stops : f (get_or xs i d) ≡ true → find f xs ≡ find f (drop i xs) → find f xs ≡ Some (get_or xs i d)
     first_stops e inv = inv ∙ first_step ∙ rw e
 
-    pub first_goes : f (get_or xs i d) ≡ false → first f xs ≡ first f (drop i xs) → first f xs ≡ first f (drop (i + 1) xs)
+    pub first_goes : f (get_or xs i d) ≡ false → find f xs ≡ find f (drop i xs) → find f xs ≡ find f (drop (i + 1) xs)
     first_goes e inv = inv ∙ first_step ∙ rw e
 
-pub first_ends {ℓ} : {A : Type ℓ} (f : A → Bool) (xs : List A) (i : ℕ) → length xs ≤ i → first f xs ≡ first f (drop i xs) → first f xs ≡ none
-unfolding first
+pub first_ends : {A : Type 0} (f : A → Bool) (xs : List A) (i : ℕ) → length xs ≤ i → find f xs ≡ find f (drop i xs) → find f xs ≡ None
 first_ends f xs i h inv = inv ∙ rw (drop_of_length-le xs h)
 
 -- what a search found passes its test, and every test that the whole list passes
-pub first_found {ℓ} : {A : Type ℓ} (f g : A → Bool) (xs : List A) (x : A) → every g xs ≡ true → first f xs ≡ some x → (f x ≡ true) × (g x ≡ true)
-unfolding first
+pub first_found : {A : Type 0} (f g : A → Bool) (xs : List A) (x : A) → list_all g xs ≡ true → find f xs ≡ Some x → (f x ≡ true) × (g x ≡ true)
 first_found f g [] x t e = absurd (none-ne-some x e)
 first_found f g (y ∷ ys) x t e = go (first_found f g ys x) (f y) refl (g y) refl t e
   where
-    go : (every g ys ≡ true → first f ys ≡ some x → (f x ≡ true) × (g x ≡ true)) → (a : Bool) → f y ≡ a → (b : Bool) → g y ≡ b
-        → b && every g ys ≡ true → cond a (some y) (first f ys) ≡ some x → (f x ≡ true) × (g x ≡ true)
+    go : (list_all g ys ≡ true → find f ys ≡ Some x → (f x ≡ true) × (g x ≡ true)) → (a : Bool) → f y ≡ a → (b : Bool) → g y ≡ b
+        → b && list_all g ys ≡ true → cond a (Some y) (find f ys) ≡ Some x → (f x ≡ true) × (g x ≡ true)
     go ih true p true q t e =
         let s : y ≡ x = some-injective y x e in
         (ap f (sym s) ∙ p, ap g (sym s) ∙ q)

@@ -2,7 +2,7 @@
 use mathlib.Core.Path.{◌≡◌, refl, sym, ap, ◌∙◌}
 use mathlib.Core.Bool.{true, false, not, false≢true}
 use mathlib.Core.List.{List}
-use mathlib.Core.Option.{Option, none, some}
+use Rattle.std.specs.Prelude.{Option, None, Some}
 use Prim.Native.Nat.{ℕ, ◌/◌}
 use lib.Dec.{eqb}
 use lib.ListN.{length}
@@ -39,8 +39,8 @@ module _ (akm : Akm) (cache : List ℕ) (reading : Tu) (s : List ℕ) {step : Pm
     where
       go : (x : Step (Option (List ℕ))) → ForPmkid x → false ≡ (pmkid_step_of x).passed → x ≡ refuse Refusal.Pmkid
       go (refuse why) f k = ap refuse f
-      go (pass none) f k = absurd (false≢true k)
-      go (pass (some pmkid)) f k = absurd (false≢true k)
+      go (pass None) f k = absurd (false≢true k)
+      go (pass (Some pmkid)) f k = absurd (false≢true k)
 
   -- a PMKID or none, as it is told
   pub record Chosen : Type 0 where
@@ -54,5 +54,5 @@ module _ (akm : Akm) (cache : List ℕ) (reading : Tu) (s : List ℕ) {step : Pm
     where
       go : (x : Step (Option (List ℕ))) → step10 akm cache reading s ≡ x → Chosen
       go (refuse why) q = absurd (false≢true (sym (ap (λ (x : PmkidStep). x.passed) (e ∙ ap pmkid_step_of q)) ∙ h))
-      go (pass none) q = record { pmkid = none; here = q; cached = sym (ap (λ (x : PmkidStep). x.cached) (e ∙ ap pmkid_step_of q)); octets = sym (ap (λ (x : PmkidStep). x.pmkid) (e ∙ ap pmkid_step_of q)) }
-      go (pass (some p)) q = record { pmkid = some p; here = q; cached = sym (ap (λ (x : PmkidStep). x.cached) (e ∙ ap pmkid_step_of q)); octets = sym (ap (λ (x : PmkidStep). x.pmkid) (e ∙ ap pmkid_step_of q)) }
+      go (pass None) q = record { pmkid = None; here = q; cached = sym (ap (λ (x : PmkidStep). x.cached) (e ∙ ap pmkid_step_of q)); octets = sym (ap (λ (x : PmkidStep). x.pmkid) (e ∙ ap pmkid_step_of q)) }
+      go (pass (Some p)) q = record { pmkid = Some p; here = q; cached = sym (ap (λ (x : PmkidStep). x.cached) (e ∙ ap pmkid_step_of q)); octets = sym (ap (λ (x : PmkidStep). x.pmkid) (e ∙ ap pmkid_step_of q)) }

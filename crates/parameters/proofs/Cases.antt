@@ -1,7 +1,7 @@
 -- Worked examples. The real octets are of a first frame that hostap's station wrote.
 use mathlib.Core.Path.{◌≡◌, refl}
 use mathlib.Core.List.{List, [], ◌∷◌, ◌++◌}
-use mathlib.Core.Option.{none, some}
+use Rattle.std.specs.Prelude.{None, Some}
 use Prim.Native.Nat.{ℕ}
 use Rattle.octets.specs.Numbers.{le, octets}
 use Rattle.parameters.specs.declared.Comeback.{Comeback}
@@ -25,7 +25,7 @@ pub real_parameters_read : parameters_of Station ((0x02 ∷ 0x00 ∷ 0x13 ∷ 0x
 unfolding parameters_of le
 real_parameters_read = refl
 
-pub real_parameters_written : parameters_octets Station (record { comeback = none; format = 0; offer = some (19, real_key) })
+pub real_parameters_written : parameters_octets Station (record { comeback = None; format = 0; offer = Some (19, real_key) })
     ≡ (0xff ∷ 0x27 ∷ 0x64 ∷ 0x02 ∷ 0x00 ∷ 0x13 ∷ 0x00 ∷ 0x21 ∷ []) ++ real_key
 unfolding parameters_octets octets
 real_parameters_written = refl
@@ -38,7 +38,7 @@ pub with_cookie_read : parameters_of Station with_cookie
 unfolding parameters_of le
 with_cookie_read = refl
 
-pub with_cookie_written : parameters_octets Station (record { comeback = some (0xc0 ∷ 0xc1 ∷ []); format = 0; offer = some (19, real_key) })
+pub with_cookie_written : parameters_octets Station (record { comeback = Some (0xc0 ∷ 0xc1 ∷ []); format = 0; offer = Some (19, real_key) })
     ≡ 0xff ∷ 0x2a ∷ 0x64 ∷ with_cookie
 unfolding parameters_octets octets
 with_cookie_written = refl
@@ -52,7 +52,7 @@ pub come_back_read : parameters_of AccessPoint come_back
 unfolding parameters_of le
 come_back_read = refl
 
-pub come_back_written : parameters_octets AccessPoint (record { comeback = some (300, 0xc0 ∷ 0xc1 ∷ []); format = 0; offer = none })
+pub come_back_written : parameters_octets AccessPoint (record { comeback = Some (300, 0xc0 ∷ 0xc1 ∷ []); format = 0; offer = None })
     ≡ 0xff ∷ 0x08 ∷ 0x64 ∷ come_back
 unfolding parameters_octets octets
 come_back_written = refl
@@ -71,7 +71,7 @@ pub neither : parameters_of Station (0 ∷ 0 ∷ []) ≡ Parameters.Is (record {
 unfolding parameters_of
 neither = refl
 
-pub neither_written : parameters_octets Station (record { comeback = none; format = 0; offer = none }) ≡ 0xff ∷ 3 ∷ 0x64 ∷ 0 ∷ 0 ∷ []
+pub neither_written : parameters_octets Station (record { comeback = None; format = 0; offer = None }) ≡ 0xff ∷ 3 ∷ 0x64 ∷ 0 ∷ 0 ∷ []
 unfolding parameters_octets
 neither_written = refl
 

@@ -2,7 +2,7 @@
 use mathlib.Core.Path.{◌≡◌, refl, sym, ap, ap₂, ◌∙◌}
 use mathlib.Core.Bool.{not}
 use mathlib.Core.List.{List, [], ◌∷◌, ◌++◌, append_assoc, append-nil}
-use mathlib.Core.Option.{Option, none, some}
+use Rattle.std.specs.Prelude.{Option, None, Some}
 use Prim.Native.Nat.{ℕ, suc, ◌+◌, ◌-◌, ◌*◌, ◌/◌, ◌%◌, ◌^◌, ◌<◌, ◌≤◌}
 use native.Mathlib.Omega.{arith}
 use native.Mathlib.Numerals.{add-one}
@@ -36,12 +36,12 @@ module _ (bits format : ℕ) (xs : List ℕ) (comeback : Comeback) where
       → offer_from (bits ∷ format ∷ (xs ++ offer_octets offer)) (2 + length xs) comeback
       ≡ Is (record { comeback = comeback; format = format; offer = offer_placed (2 + length xs) offer })
   unfolding offer_from
-  offer_reads_back none b tt =
+  offer_reads_back None b tt =
       rw (
         eq-eqb (bits / 2 % 2) 0 b,
         eq-eqb (length (bits ∷ format ∷ (xs ++ []))) (2 + length xs) (omega (arith, length-append xs [])),
       )
-  offer_reads_back (some (group, key)) b small =
+  offer_reads_back (Some (group, key)) b small =
       let s : List ℕ = bits ∷ format ∷ (xs ++ (octets 2 group ++ counted key)) in
       let n : length s ≡ 2 + length xs + 3 + length key =
       omega (arith, length-append xs (octets 2 group ++ counted key), length-append (octets 2 group) (counted key), length_octets 2 group) in
@@ -61,47 +61,47 @@ module _ (bits format : ℕ) (xs : List ℕ) (comeback : Comeback) where
 -- The whole content, by what comes with B0.
 module _ (format : ℕ) (offer : Option (ℕ × List ℕ)) (small : GroupFits offer) where
   none_reads : (side : Side)
-      → parameters_of side (content_octets side (record { comeback = none; format = format; offer = offer }))
-      ≡ Is (placed side (record { comeback = none; format = format; offer = offer }))
+      → parameters_of side (content_octets side (record { comeback = None; format = format; offer = offer }))
+      ≡ Is (placed side (record { comeback = None; format = format; offer = offer }))
   unfolding parameters_of content_octets
   none_reads side =
-      let bits : ℕ = bit {A = List ℕ} none + 2 * bit offer in
+      let bits : ℕ = bit {A = List ℕ} None + 2 * bit offer in
       rw (
         le-ltb (length (bits ∷ format ∷ offer_octets offer)) 2 (omega arith),
-        eq-eqb (bits % 2) 0 (low_bit {A = List ℕ} none offer),
-      ) (offer_reads_back bits format [] Comeback.Absent offer (high_bit {A = List ℕ} none offer) small)
+        eq-eqb (bits % 2) 0 (low_bit {A = List ℕ} None offer),
+      ) (offer_reads_back bits format [] Comeback.Absent offer (high_bit {A = List ℕ} None offer) small)
 
   cookie_reads : (cookie : List ℕ)
-      → parameters_of Station (content_octets Station (record { comeback = some cookie; format = format; offer = offer }))
-      ≡ Is (placed Station (record { comeback = some cookie; format = format; offer = offer }))
+      → parameters_of Station (content_octets Station (record { comeback = Some cookie; format = format; offer = offer }))
+      ≡ Is (placed Station (record { comeback = Some cookie; format = format; offer = offer }))
   unfolding parameters_of content_octets
   cookie_reads cookie =
-      let bits : ℕ = bit (some cookie) + 2 * bit offer in
+      let bits : ℕ = bit (Some cookie) + 2 * bit offer in
       let s : List ℕ = bits ∷ format ∷ (counted cookie ++ offer_octets offer) in
       let n : length s ≡ 3 + length cookie + length (offer_octets offer) = omega (arith, length-append cookie (offer_octets offer)) in
       let place : 2 + suc (length cookie) ≡ 3 + length cookie = omega arith in
-      let rest = offer_reads_back bits format (counted cookie) (Comeback.Cookie (record { start = 3; end = 2 + suc (length cookie) })) offer (high_bit (some cookie) offer) small in
+      let rest = offer_reads_back bits format (counted cookie) (Comeback.Cookie (record { start = 3; end = 2 + suc (length cookie) })) offer (high_bit (Some cookie) offer) small in
       rw (
         le-ltb (length s) 2 (omega arith),
-        ne_eqb (bits % 2) 0 (λ e. omega (arith, low_bit (some cookie) offer)),
+        ne_eqb (bits % 2) 0 (λ e. omega (arith, low_bit (Some cookie) offer)),
         lt-leb (length s) 2 (omega arith),
         le-ltb (length s - 3) (length cookie) (omega arith),
         ← place,
       ) rest
 
   after_reads : (after : ℕ) (cookie : List ℕ) → after < 2 ^ 16
-      → parameters_of AccessPoint (content_octets AccessPoint (record { comeback = some (after, cookie); format = format; offer = offer }))
-      ≡ Is (placed AccessPoint (record { comeback = some (after, cookie); format = format; offer = offer }))
+      → parameters_of AccessPoint (content_octets AccessPoint (record { comeback = Some (after, cookie); format = format; offer = offer }))
+      ≡ Is (placed AccessPoint (record { comeback = Some (after, cookie); format = format; offer = offer }))
   unfolding parameters_of content_octets octets
   after_reads after cookie fits =
-      let bits : ℕ = bit (some cookie) + 2 * bit offer in
+      let bits : ℕ = bit (Some cookie) + 2 * bit offer in
       let s : List ℕ = bits ∷ format ∷ (octets 2 after ++ (counted cookie ++ offer_octets offer)) in
       let n : length s ≡ 5 + length cookie + length (offer_octets offer) = omega (arith, length-append cookie (offer_octets offer)) in
       let place : 2 + suc (suc (suc (length cookie))) ≡ 5 + length cookie = omega arith in
-      let rest = offer_reads_back bits format (octets 2 after ++ counted cookie) (Comeback.After after (record { start = 5; end = 2 + suc (suc (suc (length cookie))) })) offer (high_bit (some cookie) offer) small in
+      let rest = offer_reads_back bits format (octets 2 after ++ counted cookie) (Comeback.After after (record { start = 5; end = 2 + suc (suc (suc (length cookie))) })) offer (high_bit (Some cookie) offer) small in
       rw (
         le-ltb (length s) 2 (omega arith),
-        ne_eqb (bits % 2) 0 (λ e. omega (arith, low_bit (some cookie) offer)),
+        ne_eqb (bits % 2) 0 (λ e. omega (arith, low_bit (Some cookie) offer)),
         lt-leb (length s) 4 (omega arith),
         le-ltb (length s - 5) (length cookie) (omega arith),
         reads_back 2 after (bits ∷ format ∷ []) (counted cookie ++ offer_octets offer) fits,
@@ -111,15 +111,15 @@ module _ (format : ℕ) (offer : Option (ℕ × List ℕ)) (small : GroupFits of
 -- What is said stands where it is placed.
 module _ (bits format : ℕ) (xs : List ℕ) where
   offer_says : (offer : Option (ℕ × List ℕ)) → offer_in (bits ∷ format ∷ (xs ++ offer_octets offer)) (offer_placed (2 + length xs) offer) ≡ offer
-  offer_says none = refl
-  offer_says (some (group, key)) =
+  offer_says None = refl
+  offer_says (Some (group, key)) =
       let s : List ℕ = bits ∷ format ∷ (xs ++ (octets 2 group ++ counted key)) in
       let front : List ℕ = bits ∷ format ∷ ((xs ++ octets 2 group) ++ (length key ∷ [])) in
       let whole : s ≡ front ++ key =
       ap (λ (l : List ℕ). bits ∷ format ∷ l) (sym (append_assoc xs (octets 2 group) (counted key)) ∙ sym (append_assoc (xs ++ octets 2 group) (length key ∷ []) key)) in
       let n : length front ≡ 2 + length xs + 3 = omega (arith, length-append (xs ++ octets 2 group) (length key ∷ []), length-append xs (octets 2 group), length_octets 2 group) in
       let long : 2 + length xs + 3 + length key - (2 + length xs + 3) ≡ length key = omega arith in
-      ap (λ (l : List ℕ). some (group, l)) (ap (λ (l : List ℕ). take (2 + length xs + 3 + length key - (2 + length xs + 3)) (drop (2 + length xs + 3) l)) whole
+      ap (λ (l : List ℕ). Some (group, l)) (ap (λ (l : List ℕ). take (2 + length xs + 3 + length key - (2 + length xs + 3)) (drop (2 + length xs + 3) l)) whole
       ∙ rw (drop_at front key (2 + length xs + 3) n, long, take-length key))
 
 -- the octets at a place, before others
@@ -134,26 +134,26 @@ written_reads_back side said after group = go side said.comeback said.format sai
   where
     go : (side : Side) (comeback : Option (WithB0 side)) (format : ℕ) (offer : Option (ℕ × List ℕ)) → AfterFits side comeback → GroupFits offer
         → ReadsBack side (record { comeback = comeback; format = format; offer = offer })
-    go side none format offer a g =
-        let bits : ℕ = bit {A = List ℕ} none + 2 * bit offer in
+    go side None format offer a g =
+        let bits : ℕ = bit {A = List ℕ} None + 2 * bit offer in
         record {
           reads = none_reads format offer g side;
-          says = ap (λ (o : Option (ℕ × List ℕ)). record { comeback = none; format = format; offer = o }) (offer_says bits format [] offer);
+          says = ap (λ (o : Option (ℕ × List ℕ)). record { comeback = None; format = format; offer = o }) (offer_says bits format [] offer);
         }
-    go Station (some cookie) format offer a g =
-        let bits : ℕ = bit (some cookie) + 2 * bit offer in
+    go Station (Some cookie) format offer a g =
+        let bits : ℕ = bit (Some cookie) + 2 * bit offer in
         let s : List ℕ = bits ∷ format ∷ (counted cookie ++ offer_octets offer) in
         record {
           reads = cookie_reads format offer g cookie;
-          says = ap₂ (λ (k : List ℕ) (o : Option (ℕ × List ℕ)). record { comeback = some k; format = format; offer = o })
+          says = ap₂ (λ (k : List ℕ) (o : Option (ℕ × List ℕ)). record { comeback = Some k; format = format; offer = o })
               (seam 3 s cookie (offer_octets offer) refl) (offer_says bits format (counted cookie) offer);
         }
-    go AccessPoint (some (after, cookie)) format offer a g =
-        let bits : ℕ = bit (some cookie) + 2 * bit offer in
+    go AccessPoint (Some (after, cookie)) format offer a g =
+        let bits : ℕ = bit (Some cookie) + 2 * bit offer in
         let s : List ℕ = bits ∷ format ∷ (octets 2 after ++ (counted cookie ++ offer_octets offer)) in
         record {
           reads = after_reads format offer g after cookie a;
-          says = ap₂ (λ (k : List ℕ) (o : Option (ℕ × List ℕ)). record { comeback = some (after, k); format = format; offer = o })
+          says = ap₂ (λ (k : List ℕ) (o : Option (ℕ × List ℕ)). record { comeback = Some (after, k); format = format; offer = o })
               (seam 5 s cookie (offer_octets offer) refl) (offer_says bits format (octets 2 after ++ counted cookie) offer);
         }
 
@@ -191,7 +191,7 @@ module _ (side : Side) (s : List ℕ) (small : (i : ℕ) → get_or s i 0 < 256)
         (λ without.
         unless (Written side s) (not (eqb (length s) at)) tt λ ends.
         let n : length s ≡ at = eqb-true (length s) at (not-false _ ends) in
-        offer_was none (eqb-true (bit1 s) 0 without) (ap (λ (k : ℕ). drop k s) (sym n) ∙ drop-length s))
+        offer_was None (eqb-true (bit1 s) 0 without) (ap (λ (k : ℕ). drop k s) (sym n) ∙ drop-length s))
         (λ with.
         unless (Written side s) (ltb (length s - at) 3) tt λ long.
         unless (Written side s) (not (eqb (length s - (at + 3)) (get_or s (at + 2) 0))) tt λ ends.
@@ -201,7 +201,7 @@ module _ (side : Side) (s : List ℕ) (small : (i : ℕ) → get_or s i 0 < 256)
         let k : at + 2 + 1 ≡ at + 3 = omega arith in
         let key : drop (at + 2) s ≡ counted (take (length s - (at + 3)) (drop (at + 3) s)) =
         rw (n, k, drop-length s, append-nil (take (length s - (at + 3)) (drop (at + 3) s))) at (counted_at s (at + 2) (omega arith)) in
-        offer_was (some (le 2 s at, take (length s - (at + 3)) (drop (at + 3) s))) (omega (arith, eqb-false (bit1 s) 0 with))
+        offer_was (Some (le 2 s at, take (length s - (at + 3)) (drop (at + 3) s))) (omega (arith, eqb-false (bit1 s) 0 with))
         (written_so 2 s at small (omega arith) ∙ ap (λ (l : List ℕ). octets 2 (le 2 s at) ++ l) key))
 
 -- what comes with B0

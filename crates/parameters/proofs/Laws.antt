@@ -2,7 +2,7 @@
 use mathlib.Core.Path.{◌≡◌, refl, ap₂}
 use mathlib.Core.Bool.{not}
 use mathlib.Core.List.{List, [], ◌∷◌, ◌++◌, append_assoc}
-use mathlib.Core.Option.{Option, none, some}
+use Rattle.std.specs.Prelude.{Option, None, Some}
 use Prim.Native.Nat.{ℕ, ◌+◌, ◌-◌, ◌*◌, ◌≤◌}
 use native.Mathlib.Omega.{arith}
 use borrow.Author.Tests.{ltb-false, leb-false}
@@ -31,8 +31,8 @@ after_width_most Station = omega arith
 after_width_most AccessPoint = omega arith
 
 pub bit_most : {A : Type 0} (o : Option A) → bit o ≤ 1
-bit_most none = omega arith
-bit_most (some x) = omega arith
+bit_most None = omega arith
+bit_most (Some x) = omega arith
 
 -- the control octet looks at no octets of a cookie or a key
 pub control_by : (written : ToWrite) (cookie key : List ℕ) → bit (comeback_by written.comeback []) + 2 * bit (offer_by written.offer []) ≡ control (said_by written cookie key)
@@ -75,18 +75,18 @@ module _ (side : Side) (said : Said side) where
 
 -- with a group and a key and nothing else
 pub length_with_key : (side : Side) (format group : ℕ) (key : List ℕ)
-    → length (parameters_octets side (record { comeback = none; format = format; offer = some (group, key) })) ≡ length key + parameters_size
+    → length (parameters_octets side (record { comeback = None; format = format; offer = Some (group, key) })) ≡ length key + parameters_size
 unfolding octets
 length_with_key side format group key =
-    let said : Said side = record { comeback = none; format = format; offer = some (group, key) } in
+    let said : Said side = record { comeback = None; format = format; offer = Some (group, key) } in
     omega (arith, length_parameters side said, length_content side said)
 
 -- with Comeback After and a cookie and nothing else
 pub length_come_back : (format after : ℕ) (cookie : List ℕ)
-    → length (parameters_octets AccessPoint (record { comeback = some (after, cookie); format = format; offer = none })) ≡ length cookie + parameters_size
+    → length (parameters_octets AccessPoint (record { comeback = Some (after, cookie); format = format; offer = None })) ≡ length cookie + parameters_size
 unfolding octets
 length_come_back format after cookie =
-    let said : Said AccessPoint = record { comeback = some (after, cookie); format = format; offer = none } in
+    let said : Said AccessPoint = record { comeback = Some (after, cookie); format = format; offer = None } in
     omega (arith, length_parameters AccessPoint said, length_content AccessPoint said)
 
 -- Each part of what was read lies in a content of n octets.

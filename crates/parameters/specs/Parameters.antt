@@ -2,7 +2,7 @@
 -- Comeback After (2 octets from an access point, none from a station), a cookie length octet and the cookie, with B1 group (2), key length (1), key.
 -- No octets beyond.
 use Rattle.std.specs.Prelude.{ℕ, ◌+◌, ◌-◌, ◌*◌, ◌/◌, ◌%◌, ◌≤◌, not, List, [], ◌∷◌, ◌++◌, leb, ltb, eqb, length, get_or, if◌then◌else◌}
-use Rattle.std.proofs.Math.Option.{Option, none, some}
+use Rattle.std.specs.Prelude.{Option, None, Some}
 use Rattle.octets.specs.Numbers.{le, octets}
 use Rattle.elements.specs.declared.Part.{Part}
 use Rattle.parameters.specs.declared.Side.{Side}
@@ -74,18 +74,18 @@ abbrev pub counted : List ℕ → List ℕ
 counted s = length s ∷ s
 
 abbrev pub comeback_octets : (side : Side) → Option (WithB0 side) → List ℕ
-comeback_octets side none = []
-comeback_octets Station (some cookie) = counted cookie
-comeback_octets AccessPoint (some (after, cookie)) = octets 2 after ++ counted cookie
+comeback_octets side None = []
+comeback_octets Station (Some cookie) = counted cookie
+comeback_octets AccessPoint (Some (after, cookie)) = octets 2 after ++ counted cookie
 
 abbrev pub offer_octets : Option (ℕ × List ℕ) → List ℕ
-offer_octets none = []
-offer_octets (some (group, key)) = octets 2 group ++ counted key
+offer_octets None = []
+offer_octets (Some (group, key)) = octets 2 group ++ counted key
 
 -- a control bit: whether something comes with it
 abbrev pub bit : {A : Type 0} → Option A → ℕ
-bit none = 0
-bit (some x) = 1
+bit None = 0
+bit (Some x) = 1
 
 abbrev pub control : {side : Side} → Said side → ℕ
 control said = bit said.comeback + 2 * bit said.offer
@@ -112,13 +112,13 @@ side_of (ComebackToWrite.After after) = AccessPoint
 side_of ComebackToWrite.Absent = AccessPoint
 
 abbrev pub comeback_by : (comeback : ComebackToWrite) → List ℕ → Option (WithB0 (side_of comeback))
-comeback_by ComebackToWrite.Cookie cookie = some cookie
-comeback_by (ComebackToWrite.After after) cookie = some (after, cookie)
-comeback_by ComebackToWrite.Absent cookie = none
+comeback_by ComebackToWrite.Cookie cookie = Some cookie
+comeback_by (ComebackToWrite.After after) cookie = Some (after, cookie)
+comeback_by ComebackToWrite.Absent cookie = None
 
 abbrev pub offer_by : OfferToWrite → List ℕ → Option (ℕ × List ℕ)
-offer_by (OfferToWrite.Key group) key = some (group, key)
-offer_by OfferToWrite.Absent key = none
+offer_by (OfferToWrite.Key group) key = Some (group, key)
+offer_by OfferToWrite.Absent key = None
 
 abbrev pub said_by : (written : ToWrite) → List ℕ → List ℕ → Said (side_of written.comeback)
 said_by written cookie key = record {

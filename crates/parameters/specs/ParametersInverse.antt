@@ -1,6 +1,6 @@
 -- Reading PASN Parameters and writing them undo each other.
 use Rattle.std.specs.Prelude.{ℕ, ◌+◌, ◌-◌, ◌%◌, ◌^◌, ◌<◌, ◌≡◌, List, ◌∷◌, length, take, drop, get_or}
-use Rattle.std.proofs.Math.Option.{Option, none, some}
+use Rattle.std.specs.Prelude.{Option, None, Some}
 use Rattle.elements.specs.declared.Part.{Part}
 use Rattle.parameters.specs.declared.Side.{Side}
 use Rattle.parameters.specs.declared.Side.TheVariants.{Station, AccessPoint}
@@ -12,13 +12,13 @@ use Rattle.parameters.specs.Parameters.{parameters_of, WithB0, Said, comeback_oc
 
 -- where what is said stands in the content
 abbrev pub comeback_placed : (side : Side) → Option (WithB0 side) → Comeback
-comeback_placed side none = Comeback.Absent
-comeback_placed Station (some cookie) = Comeback.Cookie (record { start = 3; end = 3 + length cookie })
-comeback_placed AccessPoint (some (after, cookie)) = Comeback.After after (record { start = 5; end = 5 + length cookie })
+comeback_placed side None = Comeback.Absent
+comeback_placed Station (Some cookie) = Comeback.Cookie (record { start = 3; end = 3 + length cookie })
+comeback_placed AccessPoint (Some (after, cookie)) = Comeback.After after (record { start = 5; end = 5 + length cookie })
 
 abbrev pub offer_placed : ℕ → Option (ℕ × List ℕ) → Offer
-offer_placed at none = Offer.Absent
-offer_placed at (some (group, key)) = Offer.Key group (record { start = at + 3; end = at + 3 + length key })
+offer_placed at None = Offer.Absent
+offer_placed at (Some (group, key)) = Offer.Key group (record { start = at + 3; end = at + 3 + length key })
 
 abbrev pub placed : (side : Side) → Said side → Parameters
 placed side said = record {
@@ -32,28 +32,28 @@ abbrev octets_in : List ℕ → Part → List ℕ
 octets_in s p = take (p.end - p.start) (drop p.start s)
 
 abbrev pub comeback_in : (side : Side) → List ℕ → Comeback → Option (WithB0 side)
-comeback_in side s Comeback.Absent = none
-comeback_in Station s (Comeback.Cookie cookie) = some (octets_in s cookie)
-comeback_in Station s (Comeback.After after cookie) = none
-comeback_in AccessPoint s (Comeback.Cookie cookie) = none
-comeback_in AccessPoint s (Comeback.After after cookie) = some (after, octets_in s cookie)
+comeback_in side s Comeback.Absent = None
+comeback_in Station s (Comeback.Cookie cookie) = Some (octets_in s cookie)
+comeback_in Station s (Comeback.After after cookie) = None
+comeback_in AccessPoint s (Comeback.Cookie cookie) = None
+comeback_in AccessPoint s (Comeback.After after cookie) = Some (after, octets_in s cookie)
 
 abbrev pub offer_in : List ℕ → Offer → Option (ℕ × List ℕ)
-offer_in s (Offer.Key group key) = some (group, octets_in s key)
-offer_in s Offer.Absent = none
+offer_in s (Offer.Key group key) = Some (group, octets_in s key)
+offer_in s Offer.Absent = None
 
 abbrev pub said_in : (side : Side) → List ℕ → Parameters → Said side
 said_in side s p = record { comeback = comeback_in side s p.comeback; format = p.format; offer = offer_in s p.offer }
 
 -- Comeback After and the group fit their two octets
 abbrev pub AfterFits : (side : Side) → Option (WithB0 side) → Type 0
-AfterFits side none = Unit {0}
-AfterFits Station (some cookie) = Unit {0}
-AfterFits AccessPoint (some (after, cookie)) = after < 2 ^ 16
+AfterFits side None = Unit {0}
+AfterFits Station (Some cookie) = Unit {0}
+AfterFits AccessPoint (Some (after, cookie)) = after < 2 ^ 16
 
 abbrev pub GroupFits : Option (ℕ × List ℕ) → Type 0
-GroupFits none = Unit {0}
-GroupFits (some (group, key)) = group < 2 ^ 16
+GroupFits None = Unit {0}
+GroupFits (Some (group, key)) = group < 2 ^ 16
 
 -- What is written reads back.
 pub record ReadsBack (side : Side) (said : Said side) : Type 0 where

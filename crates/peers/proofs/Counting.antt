@@ -3,11 +3,12 @@ use Prim.Native.Nat.{ℕ, zero, suc, ◌+◌, ◌≤◌, ◌<◌}
 use mathlib.Core.Path.{◌≡◌, refl, sym, ap, ◌∙◌}
 use mathlib.Core.Bool.{Bool, true, false, ◌&&◌, false≢true}
 use mathlib.Core.List.{List, [], ◌∷◌}
-use mathlib.Core.Option.{none, some, some-injective, none-ne-some, some-ne-none}
+use Rattle.std.specs.Prelude.{None, Some}
+use Rattle.octets.proofs.Options.{some-injective, none-ne-some, some-ne-none}
 use native.Mathlib.Omega.{arith}
 use lib.ListN.{length, replicate}
 use Rattle.std.specs.Prelude.{if◌then◌else◌}
-use Rattle.octets.specs.Search.{first, every}
+use Rattle.std.specs.List.{find, list_all}
 use Rattle.octets.proofs.Logic.{both}
 use Rattle.peers.specs.View.{count}
 
@@ -34,32 +35,30 @@ module _ {A : Type 0} (f : A → Bool) where
       go ih false e false k = omega arith
 
   -- As many pass as there are, or fewer.
-  pub count_all : (xs : List A) → every f xs ≡ true → count f xs ≡ length xs
+  pub count_all : (xs : List A) → list_all f xs ≡ true → count f xs ≡ length xs
   unfolding count
   count_all [] e = refl
   count_all (x ∷ xs) e =
-      let h = both (f x) (every f xs) e in
+      let h = both (f x) (list_all f xs) e in
       rw h.0 (omega (arith, count_all xs h.1))
 
-  pub count_fewer : (xs : List A) → every f xs ≡ false → count f xs < length xs
+  pub count_fewer : (xs : List A) → list_all f xs ≡ false → count f xs < length xs
   unfolding count
   count_fewer [] e = absurd (false≢true (sym e))
   count_fewer (x ∷ xs) e = go (count_fewer xs) (f x) e
     where
-      go : (every f xs ≡ false → count f xs < length xs) → (b : Bool) → b && every f xs ≡ false → (if b then 1 else 0) + count f xs < suc (length xs)
+      go : (list_all f xs ≡ false → count f xs < length xs) → (b : Bool) → b && list_all f xs ≡ false → (if b then 1 else 0) + count f xs < suc (length xs)
       go ih true e = omega (arith, ih e)
       go ih false e = omega (arith, count_le xs)
 
   -- where every one passes, a search for what does not pass finds none
-  pub first_none : (g : A → Bool) → ((x : A) → f x ≡ true → g x ≡ false) → (xs : List A) → every f xs ≡ true → first g xs ≡ none
-  unfolding first
+  pub first_none : (g : A → Bool) → ((x : A) → f x ≡ true → g x ≡ false) → (xs : List A) → list_all f xs ≡ true → find g xs ≡ None
   first_none g h [] e = refl
   first_none g h (x ∷ xs) e =
-      let k = both (f x) (every f xs) e in
+      let k = both (f x) (list_all f xs) e in
       rw (h x k.0) (first_none g h xs k.1)
 
-  pub first_repeated : (x : A) (k : ℕ) → f x ≡ false → first f (replicate k x) ≡ none
-  unfolding first
+  pub first_repeated : (x : A) (k : ℕ) → f x ≡ false → find f (replicate k x) ≡ None
   first_repeated x zero e = refl
   first_repeated x (suc k) e = rw e (first_repeated x k e)
 
@@ -69,22 +68,20 @@ module _ {A : Type 0} (f : A → Bool) where
   count_repeated x (suc k) e = rw e (omega (arith, count_repeated x k e))
 
   -- what a search found passes its test
-  pub first_passes : (xs : List A) (x : A) → first f xs ≡ some x → f x ≡ true
-  unfolding first
+  pub first_passes : (xs : List A) (x : A) → find f xs ≡ Some x → f x ≡ true
   first_passes [] x e = absurd (none-ne-some x e)
   first_passes (y ∷ ys) x e = go (first_passes ys x) (f y) refl e
     where
-      go : (first f ys ≡ some x → f x ≡ true) → (b : Bool) → f y ≡ b → (if b then some y else first f ys) ≡ some x → f x ≡ true
+      go : (find f ys ≡ Some x → f x ≡ true) → (b : Bool) → f y ≡ b → (if b then Some y else find f ys) ≡ Some x → f x ≡ true
       go ih true k e = ap f (sym (some-injective y x e)) ∙ k
       go ih false k e = ih e
 
   -- a search that finds none finds none by a stricter test either
-  pub first_stricter : (g : A → Bool) → ((x : A) → f x ≡ false → g x ≡ false) → (xs : List A) → first f xs ≡ none → first g xs ≡ none
-  unfolding first
+  pub first_stricter : (g : A → Bool) → ((x : A) → f x ≡ false → g x ≡ false) → (xs : List A) → find f xs ≡ None → find g xs ≡ None
   first_stricter g h [] e = refl
   first_stricter g h (x ∷ xs) e = go (first_stricter g h xs) (f x) refl e
     where
-      go : (first f xs ≡ none → first g xs ≡ none) → (b : Bool) → f x ≡ b → (if b then some x else first f xs) ≡ none
-          → (if g x then some x else first g xs) ≡ none
+      go : (find f xs ≡ None → find g xs ≡ None) → (b : Bool) → f x ≡ b → (if b then Some x else find f xs) ≡ None
+          → (if g x then Some x else find g xs) ≡ None
       go ih true k e = absurd (some-ne-none x e)
       go ih false k e = rw (h x k) (ih e)

@@ -7,7 +7,7 @@ use native.Mathlib.Omega.{arith}
 use lib.ListN.{length}
 use Rattle.std.specs.Prelude.{if◌then◌else◌}
 use Rattle.octets.specs.Equality.{same_octets}
-use Rattle.octets.specs.Search.{every}
+use Rattle.std.specs.List.{list_all}
 use Rattle.octets.proofs.Equality.{same_refl}
 use Rattle.units.specs.declared.Tu.{Tu}
 use Rattle.peers.specs.declared.Peer.{Peer}
@@ -19,7 +19,7 @@ use Rattle.peers.proofs.Laws.{full_fewer}
 
 -- an address that is none of these
 abbrev pub outside : List (List ℕ) → List ℕ → Bool
-outside these b = every (λ a. not (same_octets b a)) these
+outside these b = list_all (λ a. not (same_octets b a)) these
 
 -- From n on there is at most one live record to each of the addresses, and none to another.
 pub record Few (addresses : List (List ℕ)) (n : Tu) (t : Table) : Type 0 where

@@ -3,13 +3,13 @@ use Prim.Native.Nat.{ℕ, suc, ◌+◌, ◌≤◌, ◌<◌}
 use mathlib.Core.Path.{◌≡◌, refl, sym, ap, ◌∙◌}
 use mathlib.Core.Bool.{Bool, true, false, ◌&&◌, false≢true}
 use mathlib.Core.List.{List, [], ◌∷◌, ◌++◌, append-nil}
-use mathlib.Core.Option.{none, some}
+use Rattle.std.specs.Prelude.{None, Some}
 use native.Mathlib.Numerals.{add-one}
 use native.Mathlib.Omega.{arith}
 use lib.ListN.{length, get_or, take, drop, set, length-set, drop_of_length-le}
 use lib.Seq.{drop-cons, take_all, take-suc-set, drop-set-lt, append_snoc, set-get_or}
 use Rattle.std.specs.Prelude.{if◌then◌else◌}
-use Rattle.octets.specs.Search.{first, every}
+use Rattle.std.specs.List.{find, list_all}
 use Rattle.octets.proofs.Logic.{both}
 use Rattle.peers.specs.declared.Peer.{Peer}
 use Rattle.peers.specs.declared.Table.{Table}
@@ -20,11 +20,11 @@ module _ (keep : Peer → Bool) where
   fill p [] = []
   fill p (q ∷ qs) = if keep q then q ∷ fill p qs else p ∷ fill vacant_peer qs
 
-  pub fill_none : (p : Peer) (qs : List Peer) → every keep qs ≡ true → fill p qs ≡ qs
+  pub fill_none : (p : Peer) (qs : List Peer) → list_all keep qs ≡ true → fill p qs ≡ qs
   unfolding fill
   fill_none p [] e = refl
   fill_none p (q ∷ qs) e =
-      let h = both (keep q) (every keep qs) e in
+      let h = both (keep q) (list_all keep qs) e in
       rw h.0 (ap (λ (l : List Peer). q ∷ l) (fill_none p qs h.1))
 
   pub fill_length : (p : Peer) (qs : List Peer) → length (fill p qs) ≡ length qs
@@ -77,35 +77,35 @@ module _ (keep : Peer → Bool) where
 
   module _ (g : Peer → Bool) (nobody : g vacant_peer ≡ false) where
     -- A search that finds none of the records that make way, nor the one stored, finds what it found.
-    pub first_others : (p : Peer) (qs : List Peer) → ((q : Peer) → keep q ≡ false → g q ≡ false) → g p ≡ false → first g (fill p qs) ≡ first g qs
-    unfolding fill first
+    pub first_others : (p : Peer) (qs : List Peer) → ((q : Peer) → keep q ≡ false → g q ≡ false) → g p ≡ false → find g (fill p qs) ≡ find g qs
+    unfolding fill
     first_others p [] way e = refl
     first_others p (q ∷ qs) way e = go (λ x k. first_others x qs way k) (keep q) refl
       where
-        go : ((x : Peer) → g x ≡ false → first g (fill x qs) ≡ first g qs) → (b : Bool) → keep q ≡ b
-            → first g (if b then q ∷ fill p qs else p ∷ fill vacant_peer qs) ≡ (if g q then some q else first g qs)
+        go : ((x : Peer) → g x ≡ false → find g (fill x qs) ≡ find g qs) → (b : Bool) → keep q ≡ b
+            → find g (if b then q ∷ fill p qs else p ∷ fill vacant_peer qs) ≡ (if g q then Some q else find g qs)
         go ih true k = rw (ih p e)
         go ih false k = rw (e, way q k) (ih vacant_peer nobody)
 
     -- A search that finds none of the records kept finds the one stored, if any.
     module _ (stays : (q : Peer) → keep q ≡ true → g q ≡ false) where
-      pub first_cleared : (qs : List Peer) → first g (fill vacant_peer qs) ≡ none
-      unfolding fill first
+      pub first_cleared : (qs : List Peer) → find g (fill vacant_peer qs) ≡ None
+      unfolding fill
       first_cleared [] = refl
       first_cleared (q ∷ qs) = go (first_cleared qs) (keep q) refl
         where
-          go : first g (fill vacant_peer qs) ≡ none → (b : Bool) → keep q ≡ b
-              → first g (if b then q ∷ fill vacant_peer qs else vacant_peer ∷ fill vacant_peer qs) ≡ none
+          go : find g (fill vacant_peer qs) ≡ None → (b : Bool) → keep q ≡ b
+              → find g (if b then q ∷ fill vacant_peer qs else vacant_peer ∷ fill vacant_peer qs) ≡ None
           go ih true k = rw (stays q k) ih
           go ih false k = rw nobody ih
 
-      pub first_stored : (p : Peer) (qs : List Peer) → every keep qs ≡ false → first g (fill p qs) ≡ (if g p then some p else none)
-      unfolding fill first
+      pub first_stored : (p : Peer) (qs : List Peer) → list_all keep qs ≡ false → find g (fill p qs) ≡ (if g p then Some p else None)
+      unfolding fill
       first_stored p [] e = absurd (false≢true (sym e))
       first_stored p (q ∷ qs) e = go (first_stored p qs) (keep q) refl e
         where
-          go : (every keep qs ≡ false → first g (fill p qs) ≡ (if g p then some p else none)) → (b : Bool) → keep q ≡ b → b && every keep qs ≡ false
-              → first g (if b then q ∷ fill p qs else p ∷ fill vacant_peer qs) ≡ (if g p then some p else none)
+          go : (list_all keep qs ≡ false → find g (fill p qs) ≡ (if g p then Some p else None)) → (b : Bool) → keep q ≡ b → b && list_all keep qs ≡ false
+              → find g (if b then q ∷ fill p qs else p ∷ fill vacant_peer qs) ≡ (if g p then Some p else None)
           go ih true k e = rw (stays q k) (ih e)
           go ih false k e = rw (first_cleared qs)
 
@@ -122,12 +122,12 @@ module _ (keep : Peer → Bool) where
         go ih true k = rw (stays q k, ih)
         go ih false k = rw (nobody, goes q k) (omega arith)
 
-    pub count_stored : (p : Peer) (qs : List Peer) → every keep qs ≡ false → count g (fill p qs) ≡ count f qs + (if g p then 1 else 0)
+    pub count_stored : (p : Peer) (qs : List Peer) → list_all keep qs ≡ false → count g (fill p qs) ≡ count f qs + (if g p then 1 else 0)
     unfolding fill count
     count_stored p [] e = absurd (false≢true (sym e))
     count_stored p (q ∷ qs) e = go (count_stored p qs) (keep q) refl e
       where
-        go : (every keep qs ≡ false → count g (fill p qs) ≡ count f qs + (if g p then 1 else 0)) → (b : Bool) → keep q ≡ b → b && every keep qs ≡ false
+        go : (list_all keep qs ≡ false → count g (fill p qs) ≡ count f qs + (if g p then 1 else 0)) → (b : Bool) → keep q ≡ b → b && list_all keep qs ≡ false
             → count g (if b then q ∷ fill p qs else p ∷ fill vacant_peer qs) ≡ (if f q then 1 else 0) + count f qs + (if g p then 1 else 0)
         go ih true k e = rw (stays q k) (omega (arith, ih e))
         go ih false k e = rw (goes q k, count_cleared qs) (omega arith)

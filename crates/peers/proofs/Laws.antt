@@ -3,7 +3,7 @@ use Prim.Native.Nat.{ℕ, ◌≤◌, ◌<◌}
 use mathlib.Core.Path.{◌≡◌, refl, sym, ap, ◌∙◌}
 use mathlib.Core.Bool.{Bool, true, false, ◌&&◌, and-true, and-false, false≢true}
 use mathlib.Core.List.{List, [], ◌∷◌}
-use mathlib.Core.Option.{Option, none, some}
+use Rattle.std.specs.Prelude.{Option, None, Some}
 use native.Mathlib.Omega.{arith}
 use lib.Dec.{eqb}
 use borrow.Author.Tests.{eqb-true}
@@ -24,14 +24,14 @@ pub record Shown (n : Tu) (a : List ℕ) (p : Peer) : Type 0 where
   pub alive : live p n ≡ true
 
 module _ (t : Table) (n : Tu) (a : List ℕ) where
-  pub shown_is : {p : Peer} → shows t n a ≡ some p → Shown n a p
+  pub shown_is : {p : Peer} → shows t n a ≡ Some p → Shown n a p
   unfolding shows
   shown_is {p} e =
       let h = both (is_of p a) (live p n) (first_passes (own n a) t.peers p e) in
       record { address = same_eq p.address a h.0; alive = h.1 }
 
   -- a record that is gone stays gone
-  pub none_later : shows t n a ≡ none → (m : Tu) → n.0 ≤ m.0 → shows t m a ≡ none
+  pub none_later : shows t n a ≡ None → (m : Tu) → n.0 ≤ m.0 → shows t m a ≡ None
   unfolding shows
   none_later e m h = first_stricter (own n a) (own m a) earlier t.peers e
     where
@@ -43,7 +43,7 @@ module _ (t : Table) (n : Tu) (a : List ℕ) where
           go false d k = rw (dead_later p n m h d) (and-false (is_of p a))
 
   pub record Full : Type 0 where
-    pub nobody : shows t n a ≡ none
+    pub nobody : shows t n a ≡ None
     pub sixteen : others t n (a ∷ []) ≡ 16
 
   pub full_is : full t n a ≡ true → Full
@@ -51,16 +51,16 @@ module _ (t : Table) (n : Tu) (a : List ℕ) where
   full_is e = go (shows t n a) refl e
     where
       go : (o : Option Peer) → shows t n a ≡ o → absent o && eqb (others t n (a ∷ [])) 16 ≡ true → Full
-      go none k e = record { nobody = k; sixteen = eqb-true (others t n (a ∷ [])) 16 e }
-      go (some p) k e = absurd (false≢true e)
+      go None k e = record { nobody = k; sixteen = eqb-true (others t n (a ∷ [])) 16 e }
+      go (Some p) k e = absurd (false≢true e)
 
   -- A table is not full for an address that it shows.
-  pub full_shown : {p : Peer} → shows t n a ≡ some p → full t n a ≡ false
+  pub full_shown : {p : Peer} → shows t n a ≡ Some p → full t n a ≡ false
   unfolding full
   full_shown e = rw e
 
   -- So the record that is shown can always be replaced.
-  pub full_again : {q : Peer} → shows t n a ≡ some q → (p : Peer) → p.address ≡ q.address → full t n p.address ≡ false
+  pub full_again : {q : Peer} → shows t n a ≡ Some q → (p : Peer) → p.address ≡ q.address → full t n p.address ≡ false
   full_again e p i = ap (full t n) (i ∙ (shown_is e).address) ∙ full_shown e
 
   -- Nor is it full where fewer than sixteen others are live.

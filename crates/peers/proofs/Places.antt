@@ -7,7 +7,7 @@ use native.Mathlib.Numerals.{add-one}
 use native.Mathlib.Omega.{arith}
 use lib.ListN.{length, get_or, drop, length-map, drop_of_length-le}
 use lib.Seq.{drop-cons}
-use Rattle.octets.specs.Search.{first, every}
+use Rattle.std.specs.List.{find, list_all}
 use Rattle.octets.proofs.Search.{first_stops, first_goes, first_ends}
 use Rattle.units.specs.declared.Tu.{Tu}
 use Rattle.peers.specs.declared.Peer.{Peer}
@@ -23,8 +23,8 @@ long X Y f l n e = sym (length-map l f) ∙ e
 -- no place before i has a live record of the address, and `free` tells whether one of them has no live record
 pub record Searched (t : Table) (a : List ℕ) (n : Tu) (free : Bool) (i : ℕ) : Type 0 where
   pub places : length t.peers ≡ 16
-  pub passed : first (own n a) t.peers ≡ first (own n a) (drop i t.peers)
-  pub filled : every (taken n a) t.peers ≡ not free && every (taken n a) (drop i t.peers)
+  pub passed : find (own n a) t.peers ≡ find (own n a) (drop i t.peers)
+  pub filled : list_all (taken n a) t.peers ≡ not free && list_all (taken n a) (drop i t.peers)
 
 pub searched_none : (t : Table) (a : List ℕ) (n : Tu) → length t.peers ≡ 16 → Searched t a n false 0
 searched_none t a n l = record { places = l; passed = refl; filled = refl }
@@ -43,7 +43,7 @@ module _ {t : Table} {a : List ℕ} {n : Tu} {free : Bool} {i : ℕ} (w : Search
     goes e after k = record {
       places = w.places;
       passed = first_goes (own n a) t.peers i no_peer (omega (arith, w.places)) e w.passed;
-      filled = w.filled ∙ rw (add-one i, drop-cons t.peers i no_peer (omega (arith, w.places))) (k (every (taken n a) (drop (suc i) t.peers)));
+      filled = w.filled ∙ rw (add-one i, drop-cons t.peers i no_peer (omega (arith, w.places))) (k (list_all (taken n a) (drop (suc i) t.peers)));
     }
 
     pub searched_taken : live here n ≡ true → is_of here a ≡ false → Searched t a n free (i + 1)

@@ -8,7 +8,7 @@ use native.Mathlib.Omega.{arith}
 use lib.Dec.{eqb}
 use lib.ListN.{length, replicate}
 use borrow.Author.Tests.{eq-eqb, ne_eqb, not-true, not-false}
-use Rattle.octets.specs.Search.{first, every}
+use Rattle.std.specs.List.{find, list_all}
 use Rattle.octets.proofs.Logic.{both}
 use Rattle.units.specs.declared.Tu.{Tu}
 use Rattle.peers.specs.declared.Peer.{Peer}
@@ -41,7 +41,7 @@ module _ (a : List ℕ) where
   pub drops : (t u : Table) → u.peers ≡ fill elsewhere vacant_peer t.peers → u.latest ≡ t.latest → Drops t a u
   unfolding shows others
   drops t u e l = record {
-    shown = λ m b. ap (first (own m b)) e ∙ clear_shows elsewhere a m elsewhere_stays (elsewhere_goes m) b t.peers;
+    shown = λ m b. ap (find (own m b)) e ∙ clear_shows elsewhere a m elsewhere_stays (elsewhere_goes m) b t.peers;
     counted = λ m these. ap (count (other m these)) e ∙ clear_counts elsewhere a m elsewhere_stays (elsewhere_goes m) these t.peers;
     latest = l;
   }
@@ -64,17 +64,17 @@ module _ (n : Tu) (a : List ℕ) where
 
   module _ (t : Table) (l : length t.peers ≡ 16) where
     -- A table of sixteen places is full if each is taken.
-    pub full_taken : full t n a ≡ every taken t.peers
+    pub full_taken : full t n a ≡ list_all taken t.peers
     unfolding full shows others
-    full_taken = go (every taken t.peers) refl
+    full_taken = go (list_all taken t.peers) refl
       where
         misses : (q : Peer) → taken q ≡ true → own n a q ≡ false
         misses q k = rw (taken_stays q k)
 
-        go : (x : Bool) → every taken t.peers ≡ x → (absent (first (own n a) t.peers) && eqb (count taken t.peers) 16) ≡ x
+        go : (x : Bool) → list_all taken t.peers ≡ x → (absent (find (own n a) t.peers) && eqb (count taken t.peers) 16) ≡ x
         go true e = rw (first_none taken (own n a) misses t.peers e, eq-eqb (count taken t.peers) 16 (count_all taken t.peers e ∙ l))
         go false e =
-            rw (ne_eqb (count taken t.peers) 16 (λ k. omega (arith, count_fewer taken t.peers e))) (and-false (absent (first (own n a) t.peers)))
+            rw (ne_eqb (count taken t.peers) 16 (λ k. omega (arith, count_fewer taken t.peers e))) (and-false (absent (find (own n a) t.peers)))
 
 module _ (t : Table) (l : length t.peers ≡ 16) (p : Peer) where
   abbrev n : Tu
@@ -83,14 +83,14 @@ module _ (t : Table) (l : length t.peers ≡ 16) (p : Peer) where
   abbrev keep : Peer → Bool
   keep = taken n p.address
 
-  kept_all : {x : Bool} → full t n p.address ≡ x → every keep t.peers ≡ x
+  kept_all : {x : Bool} → full t n p.address ≡ x → list_all keep t.peers ≡ x
   kept_all f = sym (full_taken n p.address t l) ∙ f
 
   pub puts : (u : Table) → u.peers ≡ fill keep p t.peers → u.latest ≡ t.latest → Puts t p u
   unfolding shows others
   puts u e k = record {
     kept = λ f. ap₂ (λ (ps : List Peer) (x : Tu). record { peers = ps; latest = x }) (e ∙ fill_none keep p t.peers (kept_all f)) k;
-    shown = λ f m h b. ap (first (own m b)) e ∙ fill_shows keep p.address m stays (goes m h) b p t.peers refl (kept_all f);
+    shown = λ f m h b. ap (find (own m b)) e ∙ fill_shows keep p.address m stays (goes m h) b p t.peers refl (kept_all f);
     counted = λ f m h these. ap (count (other m these)) e ∙ fill_counts keep p.address m stays (goes m h) these p t.peers (kept_all f);
     latest = k;
   }

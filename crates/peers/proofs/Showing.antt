@@ -4,12 +4,12 @@ use mathlib.Core.Path.{◌≡◌, refl, ◌∙◌}
 use mathlib.Core.Bool.{Bool, true, false, and-false}
 use mathlib.Core.List.{List, ◌∷◌}
 use mathlib.Core.Logic.{◌⊎◌, ⊎_elim}
-use mathlib.Core.Option.{none}
+use Rattle.std.specs.Prelude.{None}
 use native.Mathlib.Omega.{arith}
 use borrow.Author.Tests.{le-ltb, ltb-false}
 use Rattle.std.specs.Prelude.{if◌then◌else◌}
 use Rattle.octets.specs.Equality.{same_octets}
-use Rattle.octets.specs.Search.{first, every}
+use Rattle.std.specs.List.{find, list_all}
 use Rattle.octets.proofs.Equality.{same_eq}
 use Rattle.units.specs.declared.Tu.{Tu}
 use Rattle.peers.specs.declared.Peer.{Peer}
@@ -41,18 +41,18 @@ module _ (keep : Peer → Bool) (a : List ℕ) (m : Tu) (stays : (q : Peer) → 
     own_goes : same_octets a b ≡ false → (q : Peer) → keep q ≡ false → own m b q ≡ false
     own_goes e q k = ⊎_elim (λ i. rw (same_eq q.address a i, e)) (λ d. rw d (and-false (is_of q b))) (goes q k)
 
-    pub fill_shows : (p : Peer) (qs : List Peer) → p.address ≡ a → every keep qs ≡ false
-        → first (own m b) (fill keep p qs) ≡ (if same_octets a b then while_live p m else first (own m b) qs)
+    pub fill_shows : (p : Peer) (qs : List Peer) → p.address ≡ a → list_all keep qs ≡ false
+        → find (own m b) (fill keep p qs) ≡ (if same_octets a b then while_live p m else find (own m b) qs)
     fill_shows p qs i e = go (same_octets a b) refl
       where
-        go : (x : Bool) → same_octets a b ≡ x → first (own m b) (fill keep p qs) ≡ (if x then while_live p m else first (own m b) qs)
+        go : (x : Bool) → same_octets a b ≡ x → find (own m b) (fill keep p qs) ≡ (if x then while_live p m else find (own m b) qs)
         go true k = first_stored keep (own m b) (vacant_own m b) (own_stays k) p qs e ∙ rw (i, k)
         go false k = first_others keep (own m b) (vacant_own m b) p qs (own_goes k) (rw (i, k))
 
-    pub clear_shows : (qs : List Peer) → first (own m b) (fill keep vacant_peer qs) ≡ (if same_octets a b then none else first (own m b) qs)
+    pub clear_shows : (qs : List Peer) → find (own m b) (fill keep vacant_peer qs) ≡ (if same_octets a b then None else find (own m b) qs)
     clear_shows qs = go (same_octets a b) refl
       where
-        go : (x : Bool) → same_octets a b ≡ x → first (own m b) (fill keep vacant_peer qs) ≡ (if x then none else first (own m b) qs)
+        go : (x : Bool) → same_octets a b ≡ x → find (own m b) (fill keep vacant_peer qs) ≡ (if x then None else find (own m b) qs)
         go true k = first_cleared keep (own m b) (vacant_own m b) (own_stays k) qs
         go false k = first_others keep (own m b) (vacant_own m b) vacant_peer qs (own_goes k) (vacant_own m b)
 
@@ -63,7 +63,7 @@ module _ (keep : Peer → Bool) (a : List ℕ) (m : Tu) (stays : (q : Peer) → 
     other_goes : (q : Peer) → keep q ≡ false → other m (a ∷ these) q ≡ false
     other_goes q k = ⊎_elim (λ i. rw i (and-false (live q m))) (λ d. rw d) (goes q k)
 
-    pub fill_counts : (p : Peer) (qs : List Peer) → every keep qs ≡ false
+    pub fill_counts : (p : Peer) (qs : List Peer) → list_all keep qs ≡ false
         → count (other m these) (fill keep p qs) ≡ count (other m (a ∷ these)) qs + (if other m these p then 1 else 0)
     fill_counts = count_stored keep (other m (a ∷ these)) (other m these) (vacant_other m these) other_stays other_goes
 

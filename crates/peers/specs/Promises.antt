@@ -1,6 +1,6 @@
 -- What the operations on a table promise, by what the tables show.
 use Rattle.std.specs.Prelude.{ℕ, ◌+◌, ◌<◌, ◌≤◌, ◌≡◌, Bool, true, false, List, ◌∷◌, get_or, if◌then◌else◌}
-use Rattle.std.proofs.Math.Option.{Option, none, some}
+use Rattle.std.specs.Prelude.{Option, None, Some}
 use Rattle.octets.specs.Equality.{same_octets}
 use Rattle.units.specs.declared.Tu.{Tu}
 use Rattle.peers.specs.declared.Peer.{Peer}
@@ -11,18 +11,18 @@ use Rattle.peers.specs.View.{live, is_of, other, shows, others, full, vacant_pee
 
 -- no record, latest reading 0
 pub record Nobody (r : Table) : Type 0 where
-  pub shown : (n : Tu) (a : List ℕ) → shows r n a ≡ none
+  pub shown : (n : Tu) (a : List ℕ) → shows r n a ≡ None
   pub counted : (n : Tu) (these : List (List ℕ)) → others r n these ≡ 0
   pub latest : r.latest ≡ record { 0 = 0 }
 
 -- the record shown stands at the place i
 pub record FoundAt (t : Table) (a : List ℕ) (n : Tu) (i : ℕ) : Type 0 where
   pub place : i < 16
-  pub shown : shows t n a ≡ some (get_or t.peers i no_peer)
+  pub shown : shows t n a ≡ Some (get_or t.peers i no_peer)
 
 -- no record is shown, and the table is full or not, as told
 pub record Missing (t : Table) (a : List ℕ) (n : Tu) (told : Bool) : Type 0 where
-  pub nobody : shows t n a ≡ none
+  pub nobody : shows t n a ≡ None
   pub filled : full t n a ≡ told
 
 abbrev pub Finds : Table → List ℕ → Tu → Found → Type 0
@@ -44,7 +44,7 @@ found_peer t Full = vacant_peer
 
 -- a record, while it is live
 abbrev pub while_live : Peer → Tu → Option Peer
-while_live p m = if live p m then some p else none
+while_live p m = if live p m then Some p else None
 
 -- A table that is full at its latest reading is kept. In any other, p is the one record of its address from that reading on, and every other address
 -- has what it had.
@@ -58,6 +58,6 @@ pub record Puts (t : Table) (p : Peer) (r : Table) : Type 0 where
 
 -- The address has no record, and every other has what it had.
 pub record Drops (t : Table) (a : List ℕ) (r : Table) : Type 0 where
-  pub shown : (m : Tu) (b : List ℕ) → shows r m b ≡ (if same_octets a b then none else shows t m b)
+  pub shown : (m : Tu) (b : List ℕ) → shows r m b ≡ (if same_octets a b then None else shows t m b)
   pub counted : (m : Tu) (these : List (List ℕ)) → others r m these ≡ others t m (a ∷ these)
   pub latest : r.latest ≡ t.latest

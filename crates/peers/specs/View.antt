@@ -1,8 +1,8 @@
 -- What a table shows at a clock reading: which records are live, and never where they stand.
 use Rattle.std.specs.Prelude.{ℕ, ◌+◌, Bool, true, false, ◌&&◌, not, List, [], ◌∷◌, eqb, ltb, replicate, if◌then◌else◌}
-use Rattle.std.proofs.Math.Option.{Option, none, some}
+use Rattle.std.specs.Prelude.{Option, None, Some}
 use Rattle.octets.specs.Equality.{same_octets}
-use Rattle.octets.specs.Search.{first, every}
+use Rattle.std.specs.List.{find, list_all}
 use Rattle.units.specs.declared.Tu.{Tu}
 use Rattle.peers.specs.declared.Agreed.{Agreed}
 use Rattle.peers.specs.declared.Phase.{Phase}
@@ -28,7 +28,7 @@ own n a p = is_of p a && live p n
 
 -- a live record of an address other than these
 abbrev pub other : Tu → List (List ℕ) → Peer → Bool
-other n these p = live p n && every (λ a. not (is_of p a)) these
+other n these p = live p n && list_all (λ a. not (is_of p a)) these
 
 -- how many pass a test
 unfoldable pub count {ℓ} : {A : Type ℓ} → (A → Bool) → List A → ℕ
@@ -37,15 +37,15 @@ count f (x ∷ xs) = (if f x then 1 else 0) + count f xs
 
 -- The live record of an address, or none; were there two, the first.
 unfoldable pub shows : Table → Tu → List ℕ → Option Peer
-shows t n a = first (own n a) t.peers
+shows t n a = find (own n a) t.peers
 
 -- how many live records there are of addresses other than these
 unfoldable pub others : Table → Tu → List (List ℕ) → ℕ
 others t n these = count (other n these) t.peers
 
 abbrev pub absent {ℓ} : {A : Type ℓ} → Option A → Bool
-absent none = true
-absent (some x) = false
+absent None = true
+absent (Some x) = false
 
 -- No live record of this address, and 16 live records of others.
 unfoldable pub full : Table → Tu → List ℕ → Bool

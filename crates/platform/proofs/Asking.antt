@@ -2,7 +2,7 @@
 use mathlib.Core.Path.{◌≡◌, refl, sym, ap, ◌∙◌}
 use mathlib.Core.Bool.{not}
 use mathlib.Core.List.{List}
-use mathlib.Core.Option.{Option, none, some}
+use Rattle.std.specs.Prelude.{Option, None, Some}
 use Prim.Native.Nat.{ℕ}
 use Rattle.std.specs.Prelude.{if◌then◌else◌}
 use Rattle.octets.proofs.Choice.{either_way}
@@ -55,14 +55,14 @@ module _ (t : Table) (address : List ℕ) (n : Tu) where
     looks_group e = record { number = told_number look e; shown = refl }
 
     module _ (e : check ≡ Asked.Passed) where
-      module _ (nobody : shows t n address ≡ none) where
+      module _ (nobody : shows t n address ≡ None) where
         pub removes_none : Removes t address n (record { table = dated t n; answer = Removal.NoRecord })
         removes_none = record { number = sym (ap removal nobody) ∙ told_number removal e; dates = dates_late t refl refl; settles = settles_same t address n }
 
         pub looks_none : LooksUp t address n (record { answer = LookUp.NoRecord; peer = vacant_peer })
         looks_none = record { number = sym (ap look nobody) ∙ told_number look e; shown = refl }
 
-      module _ {p : Peer} (shown : shows t n address ≡ some p) where
+      module _ {p : Peer} (shown : shows t n address ≡ Some p) where
         pub removes_some : {r : Table} → Drops (dated t n) address r → Removes t address n (record { table = r; answer = Removal.Removed })
         removes_some d = record { number = sym (ap removal shown) ∙ told_number removal e; dates = dates_late t refl d.latest; settles = settles_gone t address n d }
 

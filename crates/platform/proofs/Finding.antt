@@ -1,7 +1,7 @@
 -- What a search saw of an address is what the table shows of it.
 use mathlib.Core.Path.{◌≡◌, sym, ap, subst, ◌∙◌}
 use mathlib.Core.List.{List}
-use mathlib.Core.Option.{none, some}
+use Rattle.std.specs.Prelude.{None, Some}
 use Prim.Native.Nat.{ℕ}
 use Rattle.units.specs.declared.Tu.{Tu}
 use Rattle.peers.specs.declared.Found.{Found}
@@ -24,7 +24,7 @@ is_place t a n Free f = tt
 is_place t a n Full f = tt
 
 pub sees : (t : Table) (a : List ℕ) (n : Tu) (found : Found) {peer : Peer} → Finds t a n found → peer ≡ found_peer t found → Sees t a n found peer
-sees t a n (At i) f e = record { shown = f.shown ∙ ap some (sym e); filled = full_shown t n a f.shown }
+sees t a n (At i) f e = record { shown = f.shown ∙ ap Some (sym e); filled = full_shown t n a f.shown }
 sees t a n Free f e = record { shown = f.nobody; filled = f.filled }
 sees t a n Full f e = record { shown = f.nobody; filled = f.filled }
 
@@ -32,5 +32,5 @@ module _ (t : Table) (a : List ℕ) (n : Tu) where
   pub found_at : {found : Found} {i : ℕ} → Finds t a n found → found ≡ At i → FoundAt t a n i
   found_at f e = subst (Finds t a n) e f
 
-  pub found_none : (found : Found) → Finds t a n found → Nowhere found → shows t n a ≡ none
-  found_none found f h = nowhere (λ g. Finds t a n g → shows t n a ≡ none) (λ m. m.nobody) (λ m. m.nobody) found h f
+  pub found_none : (found : Found) → Finds t a n found → Nowhere found → shows t n a ≡ None
+  found_none found f h = nowhere (λ g. Finds t a n g → shows t n a ≡ None) (λ m. m.nobody) (λ m. m.nobody) found h f

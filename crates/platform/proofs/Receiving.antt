@@ -2,7 +2,7 @@
 use mathlib.Core.Path.{◌≡◌, refl, sym, ap, subst, ◌∙◌}
 use mathlib.Core.Bool.{Bool, false}
 use mathlib.Core.List.{List}
-use mathlib.Core.Option.{Option, none, some}
+use Rattle.std.specs.Prelude.{Option, None, Some}
 use Prim.Native.Nat.{ℕ}
 use native.Mathlib.Omega.{arith}
 use lib.ListN.{length}
@@ -65,7 +65,7 @@ module _ (t : Table) (call : Call) where
   checked = checks t.latest call.brought call.cache (length call.buffer)
 
   -- a check fails
-  pub received_early : {answer : Answer} → checked ≡ some answer → Receives t call call.buffer (record { table = t; answer = answer; length = 0 })
+  pub received_early : {answer : Answer} → checked ≡ Some answer → Receives t call call.buffer (record { table = t; answer = answer; length = 0 })
   unfolding receive_of
   received_early {answer} e =
       let o : ruled t call ≡ unchanged answer = rw e in
@@ -79,7 +79,7 @@ module _ (t : Table) (call : Call) where
       })
 
   -- all checks pass
-  module _ (passed : checked ≡ none) (found : Found) {peer : Peer} (w : Sees t address reading found peer) {after : List ℕ} {v : Verdict}
+  module _ (passed : checked ≡ None) (found : Found) {peer : Peer} (w : Sees t address reading found peer) {after : List ℕ} {v : Verdict}
       (g : BodyGets call found peer after v) where
     abbrev outcome : Outcome
     outcome = on_body call (body_of call.body) (is_full found) (seen found peer)

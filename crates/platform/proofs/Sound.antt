@@ -1,7 +1,7 @@
 -- A body's outcome is none of the answers 1 to 5. A record that it makes is of this address and has a place, if the one that there was did.
 use mathlib.Core.Path.{◌≡◌, refl}
 use mathlib.Core.Bool.{Bool, true, false, not}
-use mathlib.Core.Option.{Option, none, some}
+use Rattle.std.specs.Prelude.{Option, None, Some}
 use Prim.Native.Nat.{ℕ}
 use lib.Dec.{eqb}
 use Rattle.std.specs.Prelude.{if◌then◌else◌}
@@ -21,8 +21,8 @@ use Rattle.platform.specs.Inside.{Seats}
 module _ (call : Call) (full : Bool) where
   -- a record that there is is of this address, and has its place
   abbrev pub Placed : Option Peer → Type 0
-  Placed none = Unit {0}
-  Placed (some p) = Seats call.brought.address full (becomes p)
+  Placed None = Unit {0}
+  Placed (Some p) = Seats call.brought.address full (becomes p)
 
   pub record Sound (own : Option Peer) (o : Outcome) : Type 0 where
     pub seats : Placed own → Seats call.brought.address full o.leaves
@@ -51,20 +51,20 @@ module _ (call : Call) (full : Bool) where
         (λ _. first_sound algorithm (steps call.brought call.cache call.body full) refl)
 
   module _ (p : Peer) where
-    by_mic : (third : Option Part) → Sound (some p) (third_mic call.brought.reading call.mic call.body p third)
-    by_mic (some part) =
-        either_way (Sound (some p)) (same_octets (content call.body part) call.mic) (λ _. record { seats = λ placed. placed; late = refl }) (λ _. record { seats = λ placed. tt; late = refl })
-    by_mic none = record { seats = λ placed. tt; late = refl }
+    by_mic : (third : Option Part) → Sound (Some p) (third_mic call.brought.reading call.mic call.body p third)
+    by_mic (Some part) =
+        either_way (Sound (Some p)) (same_octets (content call.body part) call.mic) (λ _. record { seats = λ placed. placed; late = refl }) (λ _. record { seats = λ placed. tt; late = refl })
+    by_mic None = record { seats = λ placed. tt; late = refl }
 
-    by_akm : (entry : AkmEntry) → Sound (some p) (third_akm call.brought.reading call.mic call.body p entry)
+    by_akm : (entry : AkmEntry) → Sound (Some p) (third_akm call.brought.reading call.mic call.body p entry)
     by_akm (AkmEntry.In akm) = by_mic (third_of call.body akm.mic)
     by_akm AkmEntry.NotInTable = record { seats = λ placed. tt; late = refl }
 
   third : (status : ℕ) (own : Option Peer) → Sound own (third_frame call.brought.reading call.mic call.body status own)
-  third status none = record { seats = λ placed. tt; late = refl }
-  third status (some p) =
-      either_way (Sound (some p)) (not (is_waiting p.phase)) (λ _. record { seats = λ placed. tt; late = refl }) λ _.
-      either_way (Sound (some p)) (not (eqb status 0)) (λ _. record { seats = λ placed. tt; late = refl }) λ _.
+  third status None = record { seats = λ placed. tt; late = refl }
+  third status (Some p) =
+      either_way (Sound (Some p)) (not (is_waiting p.phase)) (λ _. record { seats = λ placed. tt; late = refl }) λ _.
+      either_way (Sound (Some p)) (not (eqb status 0)) (λ _. record { seats = λ placed. tt; late = refl }) λ _.
       by_akm p (akm_of p.agreed.akm)
 
   pub sound : (own : Option Peer) → (opened : Opened) → Sound own (on_body call opened full own)

@@ -1,6 +1,6 @@
 -- What the unit's operations promise, by what the tables show.
 use Rattle.std.specs.Prelude.{ℕ, ◌+◌, ◌≤◌, ◌≡◌, true, false, List, ◌∷◌, if◌then◌else◌}
-use Rattle.std.proofs.Math.Option.{Option, none, some}
+use Rattle.std.specs.Prelude.{Option, None, Some}
 use Rattle.octets.specs.Equality.{same_octets}
 use Rattle.octets.specs.Wrote.{Wrote}
 use Rattle.units.specs.declared.Tu.{Tu}
@@ -18,7 +18,7 @@ use Rattle.platform.specs.declared.LookedUp.{LookedUp}
 -- what is shown of this peer afterwards, by what was shown and what the call leaves
 abbrev pub shown_after : Option Peer → Tu → Left → Option Peer
 shown_after before m same = before
-shown_after before m gone = none
+shown_after before m gone = None
 shown_after before m (becomes p) = while_live p m
 
 -- how many live records of addresses other than these there are afterwards
@@ -74,7 +74,7 @@ abbrev pub IsSeen : Option Peer → Peer → LookUp → Type 0
 IsSeen own p LookUp.ClockOut = p ≡ vacant_peer
 IsSeen own p LookUp.GroupAddress = p ≡ vacant_peer
 IsSeen own p LookUp.NoRecord = p ≡ vacant_peer
-IsSeen own p LookUp.Shown = own ≡ some p
+IsSeen own p LookUp.Shown = own ≡ Some p
 
 pub record LooksUp (t : Table) (address : List ℕ) (n : Tu) (r : LookedUp) : Type 0 where
   pub number : look_number r.answer ≡ look_up_of t.latest n address (shows t n address)

@@ -3,13 +3,13 @@ use Prim.Native.Nat.{ℕ, ◌+◌, ◌/◌, ◌^◌}
 use mathlib.Core.Path.{◌≡◌, refl}
 use mathlib.Core.Bool.{Bool, true, false}
 use mathlib.Core.List.{List, [], ◌∷◌, ◌++◌, map}
-use mathlib.Core.Option.{Option, none, some}
+use Rattle.std.specs.Prelude.{Option, None, Some}
 use lib.Dec.{eqb}
 use lib.ListN.{length, replicate}
 use Rattle.std.specs.Prelude.{if◌then◌else◌}
 use Rattle.octets.specs.Numbers.{le, octets}
 use Rattle.octets.specs.Pieces.{pieces}
-use Rattle.octets.specs.Search.{first}
+use Rattle.std.specs.List.{find}
 use Rattle.units.specs.declared.Tu.{Tu}
 use Rattle.elements.specs.Body.{body_of}
 use Rattle.scan.specs.Scan.{scan_of}
@@ -135,7 +135,7 @@ strict point cache body = call 5000 148 (settings false 1 3600 1000) station cac
 -- with cipher 4
 abbrev peer : Phase → ℕ → Bool → List ℕ → ℕ → Option Peer
 peer phase akm cached pmkid lifetime =
-    some (record {
+    Some (record {
       address = station;
       agreed = record { cipher = 4; akm = akm; cached = cached; lifetime = record { 0 = lifetime } };
       pmkid = pmkid;
@@ -158,15 +158,15 @@ installed = peer (Installed (tu 590937)) 8 true (id 0xa8) 600
 -- the latest reading is 4,000 TU
 unfoldable pub gets : Bool → Option Peer → Call → Outcome
 unfolding
-    receive_of is_well_formed records_of choice_of pieces first body_of scan_of first_of third_of rsne_of timeout_of parameters_of suite_at le akm_of cipher_of group_of is_key_of
+    receive_of is_well_formed records_of choice_of pieces find body_of scan_of first_of third_of rsne_of timeout_of parameters_of suite_at le akm_of cipher_of group_of is_key_of
     header_octets second_octets rsne_octets timeout_octets parameters_octets mic_octets suite_octets octets
 gets full own c = receive_of (tu 4000) full own c
 
 abbrev number : Call → ℕ
-number c = answer_number (gets false none c).answer
+number c = answer_number (gets false None c).answer
 
 abbrev status : Call → Option ℕ
-status c = status_beside (gets false none c).answer
+status c = status_beside (gets false None c).answer
 
 -- the answer's number, the status beside it, the reply, and this peer's record afterwards
 pub record Shown : Type 0 where
@@ -183,16 +183,16 @@ received full own c = shown own (gets full own c)
 
 -- nothing is written
 abbrev silent : ℕ → Option Peer → Shown
-silent number after = record { number = number; status = none; reply = []; peer = after }
+silent number after = record { number = number; status = None; reply = []; peer = after }
 
 abbrev refused : ℕ → Option Peer → Shown
-refused status after = record { number = 11; status = some status; reply = header 7 2 status; peer = after }
+refused status after = record { number = 11; status = Some status; reply = header 7 2 status; peer = after }
 
 -- 0, with the AKM, the PMKIDs and the lifetime of the second frame
 abbrev accepted : ℕ → List ℕ → List ℕ → Option Peer → Shown
 accepted akm pmkids lifetime after = record {
   number = 0;
-  status = none;
+  status = None;
   reply = header 7 2 0 ++ rsne 7 7 4 akm 0xc0 pmkids ++ lifetime ++ parameters 0 19 own_key ++ (140 ∷ 16 ∷ id 0);
   peer = after;
 }
@@ -233,7 +233,7 @@ settings_edges = refl
 
 -- a waiting record goes; an installed one stays
 pub algorithm_6 :
-    received false waiting (hears (header 6 1 0)) ∷ received false installed (hears (header 6 1 0)) ∷ [] ≡ silent 8 none ∷ silent 8 installed ∷ []
+    received false waiting (hears (header 6 1 0)) ∷ received false installed (hears (header 6 1 0)) ∷ [] ≡ silent 8 None ∷ silent 8 installed ∷ []
 unfolding gets
 algorithm_6 = refl
 
@@ -246,7 +246,7 @@ first_installed = refl
 -- the eleven steps, in a full table: each call puts right what the one before it was refused for, and is wrong in all that comes later
 pub steps_in_order :
     map
-    (λ (c : Call). status_beside (gets true none c).answer)
+    (λ (c : Call). status_beside (gets true None c).answer)
     (strict false [] (header 7 1 0)
     ∷ strict false [] (first_body 1 4 6 8 9 0x40 20 4 (id 0xa8))
     ∷ strict false [] (first_body 0 4 6 8 9 0x40 20 4 (id 0xa8))
@@ -260,7 +260,7 @@ pub steps_in_order :
     ∷ strict true [] (first_body 0 7 7 4 8 0xc0 19 3 (id 0xa8))
     ∷ strict true (cached 8) (first_body 0 7 7 4 8 0xc0 19 3 (id 0xa8))
     ∷ [])
-    ≡ map some (40 ∷ 1 ∷ 41 ∷ 41 ∷ 42 ∷ 43 ∷ 45 ∷ 77 ∷ 40 ∷ 1 ∷ 53 ∷ 30 ∷ [])
+    ≡ map Some (40 ∷ 1 ∷ 41 ∷ 41 ∷ 42 ∷ 43 ∷ 45 ∷ 77 ∷ 40 ∷ 1 ∷ 53 ∷ 30 ∷ [])
 unfolding gets
 steps_in_order = refl
 
@@ -271,7 +271,7 @@ own_key_of_32 = refl
 
 -- MFPC clear, MFPR clear, No Pairwise set, and none of these
 pub capabilities :
-    map (λ (c : ℕ). status (hears (first_body 0 7 7 4 8 c 19 3 (id 0xa8)))) (0x40 ∷ 0x80 ∷ 0xc2 ∷ 0xc0 ∷ []) ≡ some 45 ∷ some 45 ∷ some 45 ∷ none ∷ []
+    map (λ (c : ℕ). status (hears (first_body 0 7 7 4 8 c 19 3 (id 0xa8)))) (0x40 ∷ 0x80 ∷ 0xc2 ∷ 0xc0 ∷ []) ≡ Some 45 ∷ Some 45 ∷ Some 45 ∷ None ∷ []
 unfolding gets
 capabilities = refl
 
@@ -281,13 +281,13 @@ pub akm_21 :
     ∷ status (tried usual (cached 21) (first_body 0 7 7 4 21 0xc0 19 3 (id 0xa8)))
     ∷ status (tried usual [] (first_body 0 7 7 4 21 0xc0 19 3 []))
     ∷ []
-    ≡ some 43 ∷ some 53 ∷ none ∷ []
+    ≡ Some 43 ∷ Some 53 ∷ None ∷ []
 unfolding gets
 akm_21 = refl
 
 -- a waiting record goes, except with status 30
 pub refused_while_waiting :
-    received false older (tried usual [] usual_body) ∷ received true older (hears usual_body) ∷ [] ≡ refused 53 none ∷ refused 30 older ∷ []
+    received false older (tried usual [] usual_body) ∷ received true older (hears usual_body) ∷ [] ≡ refused 53 None ∷ refused 30 older ∷ []
 unfolding gets
 refused_while_waiting = refl
 
@@ -299,7 +299,7 @@ accepted_again = refl
 
 -- no PMKID, and no Timeout: the settings' 3,600 s
 pub accepted_without :
-    received false none (hears (first_body 0 7 7 4 21 0xc0 19 3 [])) ≡ accepted 21 [] (timeout 0x10 0x0e) (peer (Waiting (tu 6000)) 21 false (id 0) 3600)
+    received false None (hears (first_body 0 7 7 4 21 0xc0 19 3 [])) ≡ accepted 21 [] (timeout 0x10 0x0e) (peer (Waiting (tu 6000)) 21 false (id 0) 3600)
 unfolding gets
 accepted_without = refl
 
@@ -307,13 +307,13 @@ accepted_without = refl
 
 -- without a record, and with an installed one, whatever the status; then with a waiting one: status 1, another MIC, and the lent one
 pub thirds :
-    received false none (hears (third_body 1 0x3c))
+    received false None (hears (third_body 1 0x3c))
     ∷ received false installed (hears (third_body 1 0x3c))
     ∷ received false waiting (hears (third_body 1 0x3c))
     ∷ received false waiting (hears (third_body 0 0x3d))
     ∷ received false waiting (hears (third_body 0 0x3c))
     ∷ []
-    ≡ silent 13 none ∷ silent 13 installed ∷ silent 12 none ∷ silent 14 none ∷ silent 15 installed ∷ []
+    ≡ silent 13 None ∷ silent 13 installed ∷ silent 12 None ∷ silent 14 None ∷ silent 15 installed ∷ []
 unfolding gets
 thirds = refl
 
@@ -324,7 +324,7 @@ abbrev asked : (Tu → Tu → List ℕ → Option Peer → ℕ) → List ℕ
 asked f =
     f (tu 4000) (tu 3999) station waiting
     ∷ f (tu 4000) (tu 4000) group_address waiting
-    ∷ f (tu 4000) (tu 4000) station none
+    ∷ f (tu 4000) (tu 4000) station None
     ∷ f (tu 4000) (tu 4000) station waiting
     ∷ []
 
@@ -334,5 +334,5 @@ removals_and_look_ups = refl
 -- One peer alone ------------------------------------------------------------------------------------------------------------------------
 
 -- a look-up ahead of time sets no latest reading
-pub alone_looks_ahead : alone_gets (look_up station (tu 60) ∷ remove station (tu 10) ∷ []) ≡ found 17 none ∷ removed 17 ∷ []
+pub alone_looks_ahead : alone_gets (look_up station (tu 60) ∷ remove station (tu 10) ∷ []) ≡ found 17 None ∷ removed 17 ∷ []
 alone_looks_ahead = refl

@@ -2,7 +2,7 @@
 use mathlib.Core.Path.{◌≡◌, refl, subst}
 use mathlib.Core.Bool.{true, false, ◌&&◌, not}
 use mathlib.Core.List.{List}
-use mathlib.Core.Option.{Option, none, some}
+use Rattle.std.specs.Prelude.{Option, None, Some}
 use Prim.Native.Nat.{ℕ, ◌^◌, ◌<◌, ◌≤◌}
 use lib.Dec.{ltb, leb}
 use borrow.Author.Tests.{leb-true, ltb-true, ltb-false, not-false}
@@ -43,8 +43,8 @@ module _ (latest : Tu) (brought : Brought) (cache : List ℕ) (room : ℕ) where
 
   -- what the checks come to tells which of them hold
   abbrev Tells : Option Answer → Type 0
-  Tells none = AllPass
-  Tells (some answer) = is_early (answer_number answer) ≡ true
+  Tells None = AllPass
+  Tells (Some answer) = is_early (answer_number answer) ≡ true
 
   tells : Tells (checks latest brought cache room)
   unfolding checks
@@ -62,13 +62,13 @@ module _ (latest : Tu) (brought : Brought) (cache : List ℕ) (room : ℕ) where
         formed = not-false (is_well_formed cache) formed;
       }
 
-  pub checks_pass : checks latest brought cache room ≡ none → AllPass
+  pub checks_pass : checks latest brought cache room ≡ None → AllPass
   checks_pass e = subst Tells e tells
 
-  pub checks_early : {answer : Answer} → checks latest brought cache room ≡ some answer → is_early (answer_number answer) ≡ true
+  pub checks_early : {answer : Answer} → checks latest brought cache room ≡ Some answer → is_early (answer_number answer) ≡ true
   checks_early e = subst Tells e tells
 
-  pub checks_ready : checks latest brought cache room ≡ none → Ready brought cache room
+  pub checks_ready : checks latest brought cache room ≡ None → Ready brought cache room
   checks_ready e =
       let c = checks_pass e in
       record {
@@ -81,6 +81,6 @@ module _ (latest : Tu) (brought : Brought) (cache : List ℕ) (room : ℕ) where
       }
 
   -- a clock reading that does not fit is answered 1
-  pub checks_clock : clock_fits latest brought.reading ≡ false → checks latest brought cache room ≡ some Answer.ClockOut
+  pub checks_clock : clock_fits latest brought.reading ≡ false → checks latest brought cache room ≡ Some Answer.ClockOut
   unfolding checks
   checks_clock h = rw h

@@ -2,7 +2,7 @@
 use mathlib.Core.Path.{◌≡◌, refl, sym, ap, subst, ◌∙◌}
 use mathlib.Core.Bool.{Bool, true, false, ◌||◌}
 use mathlib.Core.List.{List}
-use mathlib.Core.Option.{Option, none, some}
+use Rattle.std.specs.Prelude.{Option, None, Some}
 use Prim.Native.Nat.{ℕ, ◌*◌, ◌/◌, ◌^◌, ◌<◌}
 use native.Mathlib.Omega.{arith}
 use lib.Dec.{eqb}
@@ -106,8 +106,8 @@ group_listed number key point e =
 
 -- A PMKID that was chosen has 16 octets.
 abbrev pub Sixteen : Option (List ℕ) → Type 0
-Sixteen none = Unit {0}
-Sixteen (some pmkid) = length pmkid ≡ 16
+Sixteen None = Unit {0}
+Sixteen (Some pmkid) = length pmkid ≡ 16
 
 sixteen : (akm : Akm) (cache : List ℕ) (reading : Tu) (s : List ℕ) {pmkid : Option (List ℕ)} → step10 akm cache reading s ≡ pass pmkid → Sixteen pmkid
 sixteen akm cache reading s {pmkid} e = by_akm akm.pmk e
@@ -120,7 +120,7 @@ sixteen akm cache reading s {pmkid} e = by_akm akm.pmk e
     by_choice Choice.Nothing c e = absurd (refuse_pass e)
 
     by_akm : (b : Bool)
-        → (if b then pmkid_chosen (pieces 16 (length s / 16) s) (choice_of (records_of cache) (pieces 16 (length s / 16) s) akm.kind reading) else (if eqb (length s) 0 then pass none else refuse Refusal.Pmkid))
+        → (if b then pmkid_chosen (pieces 16 (length s / 16) s) (choice_of (records_of cache) (pieces 16 (length s / 16) s) akm.kind reading) else (if eqb (length s) 0 then pass None else refuse Refusal.Pmkid))
         ≡ pass pmkid
         → Sixteen pmkid
     by_akm true e = by_choice (choice_of (records_of cache) (pieces 16 (length s / 16) s) akm.kind reading) refl e
@@ -130,14 +130,14 @@ has_room : (full : Bool) {b : Bool} → step11 full ≡ pass b → full ≡ fals
 has_room true e = absurd (refuse_pass e)
 has_room false e = refl
 
-is_facts : (first : Option Facts) {facts : Facts} → formed first ≡ pass facts → first ≡ some facts
-is_facts (some x) e = ap some (pass_same e)
-is_facts none e = absurd (refuse_pass e)
+is_facts : (first : Option Facts) {facts : Facts} → formed first ≡ pass facts → first ≡ Some facts
+is_facts (Some x) e = ap Some (pass_same e)
+is_facts None e = absurd (refuse_pass e)
 
 -- What the frame said, and what was chosen of it.
 pub record Passes (brought : Brought) (body : List ℕ) (full : Bool) (passed : Passed) : Type 0 where
   pub facts : Facts
-  pub read : first_of body ≡ some facts
+  pub read : first_of body ≡ Some facts
   pub suites : Suites
   pub of : SuitesOf facts.rsne suites
   pub group : Group

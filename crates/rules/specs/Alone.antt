@@ -1,6 +1,6 @@
 -- One peer alone: what its calls get, one after another, and what they leave of its record, by the one-peer rules.
 use Rattle.std.specs.Prelude.{ℕ, false, List, [], ◌∷◌, ◌++◌, eqb, length, drop, if◌then◌else◌}
-use Rattle.std.proofs.Math.Option.{Option, none, some}
+use Rattle.std.specs.Prelude.{Option, None, Some}
 use Rattle.units.specs.declared.Tu.{Tu}
 use Rattle.peers.specs.declared.Peer.{Peer}
 use Rattle.peers.specs.Promises.{while_live}
@@ -39,8 +39,8 @@ pub record Alone : Type 0 where
 
 -- the record, while it is live
 abbrev pub live_at : Option Peer → Tu → Option Peer
-live_at none n = none
-live_at (some p) n = while_live p n
+live_at None n = None
+live_at (Some p) n = while_live p n
 
 -- There are no others, so that no place is missing.
 abbrev pub outcome_for : Alone → Call → Outcome
@@ -61,7 +61,7 @@ gets s (receive call) =
     let o = outcome_for s call in
     answered o.answer (length o.reply) (overwritten o.reply call.buffer)
 gets s (remove a n) = removed (removal_for s a n)
-gets s (look_up a n) = found (look_for s a n) (if eqb (look_for s a n) 18 then live_at s.peer n else none)
+gets s (look_up a n) = found (look_for s a n) (if eqb (look_for s a n) 18 then live_at s.peer n else None)
 
 -- a removal takes the record exactly if answered 16
 abbrev pub removal_leaves : ℕ → Left
@@ -95,7 +95,7 @@ gets_all s (ask ∷ asks) = gets s ask ∷ gets_all (next s ask) asks
 
 -- no record, latest reading 0
 abbrev pub unknown : Alone
-unknown = record { latest = record { 0 = 0 }; peer = none }
+unknown = record { latest = record { 0 = 0 }; peer = None }
 
 -- one peer's calls, alone from the start: what they get, and what they leave
 abbrev pub alone_gets : List Ask → List Got

@@ -1,6 +1,6 @@
 -- The one-peer rules: what a call gets, by what it brings, this peer's live record or none, and whether sixteen others are live.
 use Rattle.std.specs.Prelude.{ℕ, ◌+◌, ◌/◌, ◌%◌, min, Bool, true, false, ◌&&◌, ◌||◌, not, List, [], eqb, ltb, leb, length, get_or, replicate, if◌then◌else◌}
-use Rattle.std.proofs.Math.Option.{Option, none, some}
+use Rattle.std.specs.Prelude.{Option, None, Some}
 use Rattle.octets.specs.Equality.{same_octets}
 use Rattle.octets.specs.Pieces.{pieces}
 use Rattle.units.specs.declared.Seconds.{Seconds}
@@ -105,12 +105,12 @@ is_waiting (Installed end) = false
 
 -- whether this peer's record is a waiting one, or an installed one
 abbrev pub waits : Option Peer → Bool
-waits none = false
-waits (some p) = is_waiting p.phase
+waits None = false
+waits (Some p) = is_waiting p.phase
 
 abbrev pub is_installed : Option Peer → Bool
-is_installed none = false
-is_installed (some p) = not (is_waiting p.phase)
+is_installed None = false
+is_installed (Some p) = not (is_waiting p.phase)
 
 -- a waiting record goes, where there is one
 abbrev pub gone_if : Bool → Left
@@ -119,8 +119,8 @@ gone_if waiting = if waiting then gone else same
 -- this peer's record afterwards
 abbrev pub peer_after : Option Peer → Left → Option Peer
 peer_after own same = own
-peer_after own gone = none
-peer_after own (becomes p) = some p
+peer_after own gone = None
+peer_after own (becomes p) = Some p
 
 -- The first frame, in order -------------------------------------------------------------------------------------------------------------
 
@@ -147,22 +147,22 @@ terms_of Refusal.TableFull = record { status = 30; spares = true }
 
 -- the status beside the answer
 abbrev pub status_beside : Answer → Option ℕ
-status_beside Answer.Accepted = none
-status_beside Answer.ClockOut = none
-status_beside Answer.BufferShort = none
-status_beside Answer.SettingsOut = none
-status_beside Answer.GroupAddress = none
-status_beside Answer.CacheIll = none
-status_beside Answer.OwnKey = none
-status_beside Answer.BodyLength = none
-status_beside Answer.Algorithm = none
-status_beside Answer.Transaction = none
-status_beside Answer.PeerInstalled = none
-status_beside (Answer.Refused why) = some (terms_of why).status
-status_beside Answer.StatusNotZero = none
-status_beside Answer.NoExchange = none
-status_beside Answer.ThirdRefused = none
-status_beside Answer.Installed = none
+status_beside Answer.Accepted = None
+status_beside Answer.ClockOut = None
+status_beside Answer.BufferShort = None
+status_beside Answer.SettingsOut = None
+status_beside Answer.GroupAddress = None
+status_beside Answer.CacheIll = None
+status_beside Answer.OwnKey = None
+status_beside Answer.BodyLength = None
+status_beside Answer.Algorithm = None
+status_beside Answer.Transaction = None
+status_beside Answer.PeerInstalled = None
+status_beside (Answer.Refused why) = Some (terms_of why).status
+status_beside Answer.StatusNotZero = None
+status_beside Answer.NoExchange = None
+status_beside Answer.ThirdRefused = None
+status_beside Answer.Installed = None
 
 -- a step refuses, or passes and shows a value
 pub data Step (A : Type 0) : Type 0 where
@@ -179,8 +179,8 @@ refuse_if why wrong = if wrong then refuse why else pass true
 
 -- 1. 40: ill-formed
 abbrev pub formed : Option Facts → Step Facts
-formed (some facts) = pass facts
-formed none = refuse Refusal.IllFormed
+formed (Some facts) = pass facts
+formed None = refuse Refusal.IllFormed
 
 abbrev pub step1 : List ℕ → Step Facts
 step1 body = formed (first_of body)
@@ -265,13 +265,13 @@ key_steps number key point = do
 -- 10. 53: with AKM 21, any PMKID; with another AKM, no listed PMKID has a cache record of that PMKID, the same AKM and an end later than now.
 -- The first such PMKID of the frame's list is chosen; with AKM 21 there is none.
 abbrev pub pmkid_chosen : List (List ℕ) → Choice → Step (Option (List ℕ))
-pmkid_chosen pmkids (Choice.Chosen k end) = pass (some (get_or pmkids k []))
+pmkid_chosen pmkids (Choice.Chosen k end) = pass (Some (get_or pmkids k []))
 pmkid_chosen pmkids Choice.Nothing = refuse Refusal.Pmkid
 
 abbrev pub step10 : Akm → List ℕ → Tu → List ℕ → Step (Option (List ℕ))
 step10 akm cache reading pmkids =
     if akm.pmk then pmkid_chosen (pieces 16 (length pmkids / 16) pmkids) (choice_of (records_of cache) (pieces 16 (length pmkids / 16) pmkids) akm.kind reading)
-    else (if eqb (length pmkids) 0 then pass none
+    else (if eqb (length pmkids) 0 then pass None
     else refuse Refusal.Pmkid)
 
 -- 11. 30: no live record of this address, and 16 live records of others
@@ -291,8 +291,8 @@ pub record Passed : Type 0 where
   pub group : Group
 
 abbrev pub kept : Option (List ℕ) → List ℕ
-kept none = replicate 16 0
-kept (some pmkid) = pmkid
+kept None = replicate 16 0
+kept (Some pmkid) = pmkid
 
 abbrev pub passed_with : Suites → Group → Option (List ℕ) → Seconds → Passed
 passed_with suites group pmkid lifetime = record {
@@ -382,11 +382,11 @@ installed_peer reading p = record {
 
 -- the MIC unlike the lent one is refused
 abbrev pub third_mic : Tu → List ℕ → List ℕ → Peer → Option Part → Outcome
-third_mic reading mic body p (some part) =
+third_mic reading mic body p (Some part) =
     if same_octets (content body part) mic
     then record { answer = Answer.Installed; reply = []; leaves = becomes (installed_peer reading p) }
     else lost Answer.ThirdRefused
-third_mic reading mic body p none = lost Answer.ThirdRefused
+third_mic reading mic body p None = lost Answer.ThirdRefused
 
 -- the MIC's length follows the record's AKM
 abbrev pub third_akm : Tu → List ℕ → List ℕ → Peer → AkmEntry → Outcome
@@ -395,8 +395,8 @@ third_akm reading mic body p AkmEntry.NotInTable = lost Answer.ThirdRefused
 
 -- A peer with no live record is answered 13, and so is an installed one.
 abbrev pub third_frame : Tu → List ℕ → List ℕ → ℕ → Option Peer → Outcome
-third_frame reading mic body status none = unchanged Answer.NoExchange
-third_frame reading mic body status (some p) =
+third_frame reading mic body status None = unchanged Answer.NoExchange
+third_frame reading mic body status (Some p) =
     if not (is_waiting p.phase) then unchanged Answer.NoExchange
     else (if not (eqb status 0) then lost Answer.StatusNotZero
     else third_akm reading mic body p (akm_of p.agreed.akm))
@@ -421,12 +421,12 @@ is_group_address address = eqb (get_or address 0 0 % 2) 1
 -- the answers 1 to 5: that of the first check that fails
 unfoldable pub checks : Tu → Brought → List ℕ → ℕ → Option Answer
 checks latest brought cache room =
-    if not (clock_fits latest brought.reading) then some Answer.ClockOut
-    else (if ltb room smallest_buffer then some Answer.BufferShort
-    else (if not (settings_fit brought.settings) then some Answer.SettingsOut
-    else (if is_group_address brought.address then some Answer.GroupAddress
-    else (if not (is_well_formed cache) then some Answer.CacheIll
-    else none))))
+    if not (clock_fits latest brought.reading) then Some Answer.ClockOut
+    else (if ltb room smallest_buffer then Some Answer.BufferShort
+    else (if not (settings_fit brought.settings) then Some Answer.SettingsOut
+    else (if is_group_address brought.address then Some Answer.GroupAddress
+    else (if not (is_well_formed cache) then Some Answer.CacheIll
+    else None))))
 
 abbrev pub by_transaction : Call → Header → Bool → Option Peer → Outcome
 by_transaction call header full own =
@@ -441,8 +441,8 @@ on_body call Opened.NoBody full own = unchanged Answer.BodyLength
 
 infixr 5 ◌or_else◌
 abbrev pub ◌or_else◌ : Option Answer → Outcome → Outcome
-none or_else outcome = outcome
-some answer or_else outcome = unchanged answer
+None or_else outcome = outcome
+Some answer or_else outcome = unchanged answer
 
 -- what a receive gets: `latest` is the latest reading, `own` this peer's live record, `full` whether there is none and sixteen others are live
 unfoldable pub receive_of : Tu → Bool → Option Peer → Call → Outcome

@@ -1,6 +1,6 @@
 -- What the steps' structs and enums tell, in the words of the one-peer rules.
 use Rattle.std.specs.Prelude.{ℕ, true, false, List, replicate}
-use Rattle.std.proofs.Math.Option.{Option, none, some}
+use Rattle.std.specs.Prelude.{Option, None, Some}
 use Rattle.suites.specs.declared.Akm.{Akm}
 use Rattle.suites.specs.declared.AkmEntry.{AkmEntry}
 use Rattle.suites.specs.declared.Group.{Group}
@@ -30,5 +30,5 @@ key_told (KeySteps.Refused why) = refuse why
 -- step 10 as its struct tells it: beside none, and where it refuses, the PMKID is zeros
 abbrev pub pmkid_step_of : Step (Option (List ℕ)) → PmkidStep
 pmkid_step_of (refuse why) = record { passed = false; cached = false; pmkid = replicate 16 0 }
-pmkid_step_of (pass none) = record { passed = true; cached = false; pmkid = replicate 16 0 }
-pmkid_step_of (pass (some pmkid)) = record { passed = true; cached = true; pmkid = pmkid }
+pmkid_step_of (pass None) = record { passed = true; cached = false; pmkid = replicate 16 0 }
+pmkid_step_of (pass (Some pmkid)) = record { passed = true; cached = true; pmkid = pmkid }

@@ -4,7 +4,7 @@ use mathlib.Core.Path.{◌≡◌, refl}
 use mathlib.Core.Bool.{Bool, true, false}
 use mathlib.Core.List.{List, [], ◌∷◌}
 use lib.ListN.{replicate}
-use Rattle.octets.specs.Search.{first}
+use Rattle.std.specs.List.{find}
 use Rattle.suites.specs.declared.AkmEntry.{AkmEntry}
 use Rattle.suites.specs.declared.CipherEntry.{CipherEntry}
 use Rattle.suites.specs.declared.GroupEntry.{GroupEntry}
@@ -25,43 +25,43 @@ unfolding suite_octets
 written = refl
 
 pub akm_5 : akm_of 5 ≡ AkmEntry.In record { kind = 5; mic = 16; pmk = true }
-unfolding akm_of first
+unfolding akm_of
 akm_5 = refl
 
 pub akm_8 : akm_of 8 ≡ AkmEntry.In record { kind = 8; mic = 16; pmk = true }
-unfolding akm_of first
+unfolding akm_of
 akm_8 = refl
 
 pub akm_21 : akm_of 21 ≡ AkmEntry.In record { kind = 21; mic = 16; pmk = false }
-unfolding akm_of first
+unfolding akm_of
 akm_21 = refl
 
 pub no_akm_2 : akm_of 2 ≡ AkmEntry.NotInTable
-unfolding akm_of first
+unfolding akm_of
 no_akm_2 = refl
 
 pub no_akm_24 : akm_of 24 ≡ AkmEntry.NotInTable
-unfolding akm_of first
+unfolding akm_of
 no_akm_24 = refl
 
 pub cipher_10 : cipher_of 10 ≡ CipherEntry.In record { kind = 10; flag = 8 }
-unfolding cipher_of first
+unfolding cipher_of
 cipher_10 = refl
 
 -- the group cipher is no pairwise one
 pub no_cipher_7 : cipher_of 7 ≡ CipherEntry.NotInTable
-unfolding cipher_of first
+unfolding cipher_of
 no_cipher_7 = refl
 
 pub group_19 :
     group_of 19
     ≡ GroupEntry.In
     record { number = 19; compressed = record { length = 33; lowest = 2; highest = 3 }; uncompressed = record { length = 65; lowest = 4; highest = 4 } }
-unfolding group_of first
+unfolding group_of
 group_19 = refl
 
 pub no_group_20 : group_of 20 ≡ GroupEntry.NotInTable
-unfolding group_of first
+unfolding group_of
 no_group_20 = refl
 
 -- whether octets are a key of a group in the table
@@ -70,29 +70,29 @@ key_of (GroupEntry.In group) key = is_key_of group key
 key_of GroupEntry.NotInTable key = false
 
 pub compressed_2 : key_of (group_of 19) (2 ∷ replicate 32 0) ≡ true
-unfolding group_of first is_key_of
+unfolding group_of is_key_of
 compressed_2 = refl
 
 pub compressed_3 : key_of (group_of 19) (3 ∷ replicate 32 0) ≡ true
-unfolding group_of first is_key_of
+unfolding group_of is_key_of
 compressed_3 = refl
 
 pub no_compressed_4 : key_of (group_of 19) (4 ∷ replicate 32 0) ≡ false
-unfolding group_of first is_key_of
+unfolding group_of is_key_of
 no_compressed_4 = refl
 
 pub uncompressed_4 : key_of (group_of 19) (4 ∷ replicate 64 0) ≡ true
-unfolding group_of first is_key_of
+unfolding group_of is_key_of
 uncompressed_4 = refl
 
 pub no_uncompressed_2 : key_of (group_of 19) (2 ∷ replicate 64 0) ≡ false
-unfolding group_of first is_key_of
+unfolding group_of is_key_of
 no_uncompressed_2 = refl
 
 pub one_too_long : key_of (group_of 19) (2 ∷ replicate 33 0) ≡ false
-unfolding group_of first is_key_of
+unfolding group_of is_key_of
 one_too_long = refl
 
 pub no_empty_key : key_of (group_of 19) [] ≡ false
-unfolding group_of first is_key_of
+unfolding group_of is_key_of
 no_empty_key = refl

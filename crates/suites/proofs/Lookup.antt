@@ -3,11 +3,12 @@ use Prim.Native.Nat.{ℕ, ◌+◌, ◌≤◌, ◌<◌}
 use mathlib.Core.Path.{◌≡◌, refl, sym, ap}
 use mathlib.Core.Bool.{Bool, true}
 use mathlib.Core.List.{List}
-use mathlib.Core.Option.{Option, none, some}
+use Rattle.std.specs.Prelude.{Option, None, Some}
 use lib.Dec.{eqb}
 use lib.ListN.{length, get_or, drop}
 use borrow.Author.Tests.{eqb-true, eq-eqb, ne_eqb}
-use Rattle.octets.specs.Search.{first, every, entry}
+use Rattle.std.specs.List.{find, list_all}
+use Rattle.octets.specs.Search.{entry}
 use Rattle.octets.proofs.Search.{first_stops, first_goes, first_ends, first_found}
 use Rattle.suites.specs.Tables.{look_up}
 
@@ -16,7 +17,7 @@ has number n x = eqb (number x) n
 
 -- how far the loop has come: no entry before i has the number
 pub record Searched {A : Type 0} (number : A → ℕ) (table : List A) (n i : ℕ) : Type 0 where
-  pub so_far : first (has number n) table ≡ first (has number n) (drop i table)
+  pub so_far : find (has number n) table ≡ find (has number n) (drop i table)
 
 pub searched_none : {A : Type 0} {number : A → ℕ} {table : List A} {n : ℕ} → Searched number table n 0
 searched_none = record { so_far = refl }
@@ -33,13 +34,13 @@ module _ {A : Type 0} {number : A → ℕ} {table : List A} {n i : ℕ} (g : Sea
     searched_all h = ap (entry found missing) (sym (first_ends (has number n) table i h g.so_far))
 
 module _ {A : Type 0} (number : A → ℕ) (table : List A) (n : ℕ) where
-  module _ {B : Type 0} (found : A → B) (missing : B) (one : (x y : A) → found x ≡ found y → x ≡ y) (apart : (x : A) → missing ≡ found x → none ≡ some x) where
-    answers : (x : A) (o : Option A) → entry found missing o ≡ found x → o ≡ some x
-    answers x none e = apart x e
-    answers x (some y) e = ap some (one y x e)
+  module _ {B : Type 0} (found : A → B) (missing : B) (one : (x y : A) → found x ≡ found y → x ≡ y) (apart : (x : A) → missing ≡ found x → None ≡ Some x) where
+    answers : (x : A) (o : Option A) → entry found missing o ≡ found x → o ≡ Some x
+    answers x None e = apart x e
+    answers x (Some y) e = ap Some (one y x e)
 
     -- what was found has the number, and passes every test that the whole table passes
-    pub looked_up : (test : A → Bool) → every test table ≡ true → (x : A) → look_up number table n found missing ≡ found x → (number x ≡ n) × (test x ≡ true)
+    pub looked_up : (test : A → Bool) → list_all test table ≡ true → (x : A) → look_up number table n found missing ≡ found x → (number x ≡ n) × (test x ≡ true)
     looked_up test t x e =
-        let p = first_found (has number n) test table x t (answers x (first (has number n) table) e) in
+        let p = first_found (has number n) test table x t (answers x (find (has number n) table) e) in
         (eqb-true (number x) n p.0, p.1)

@@ -1,6 +1,7 @@
 -- The suites and groups stand in fixed tables.
 use Rattle.std.specs.Prelude.{ℕ, Bool, true, false, ◌&&◌, ◌||◌, not, List, [], ◌∷◌, eqb, leb, length, get_or, if◌then◌else◌}
-use Rattle.octets.specs.Search.{first, entry}
+use Rattle.std.specs.List.{find}
+use Rattle.octets.specs.Search.{entry}
 use Rattle.suites.specs.declared.Akm.{Akm}
 use Rattle.suites.specs.declared.AkmEntry.{AkmEntry}
 use Rattle.suites.specs.declared.Cipher.{Cipher}
@@ -19,7 +20,7 @@ greatest number (x ∷ xs) = greater (number x) (greatest number xs)
 
 -- the entry of a table that has a number, as an answer, or the answer where no entry has it
 abbrev pub look_up : {A B : Type 0} → (A → ℕ) → List A → ℕ → (A → B) → B → B
-look_up number table n found missing = entry found missing (first (λ x. eqb (number x) n) table)
+look_up number table n found missing = entry found missing (find (λ x. eqb (number x) n) table)
 
 -- AKM types 5, 6, 8 and 21, each with a MIC of 16 octets; 21 is PASN itself, with no PMK
 abbrev pub akms : List Akm

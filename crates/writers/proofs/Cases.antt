@@ -1,7 +1,7 @@
 -- Worked examples. The second frame is one that hostap's station accepted.
 use mathlib.Core.Path.{◌≡◌, refl}
 use mathlib.Core.List.{List, [], ◌∷◌, ◌++◌}
-use mathlib.Core.Option.{none, some}
+use Rattle.std.specs.Prelude.{None, Some}
 use Prim.Native.Nat.{ℕ}
 use lib.ListN.{replicate}
 use Rattle.octets.specs.Numbers.{le, octets}
@@ -76,48 +76,48 @@ pub real_written : second_octets chosen pmkid key ≡ header ++ rsne ++ timeout 
 unfolding second_octets header_octets rsne_octets timeout_octets parameters_octets mic_octets octets suite_octets
 real_written = refl
 
-pub real_read : second_of (header ++ rsne ++ timeout ++ parameters ++ with_mic mic) ≡ some (shown pmkid mic)
+pub real_read : second_of (header ++ rsne ++ timeout ++ parameters ++ with_mic mic) ≡ Some (shown pmkid mic)
 unfolding second_of body_of scan_of rsne_of timeout_of parameters_of le suite_at
 real_read = refl
 
-pub no_pmkid : second_of (second_octets chosen [] key) ≡ some (shown [] (replicate 16 0))
+pub no_pmkid : second_of (second_octets chosen [] key) ≡ Some (shown [] (replicate 16 0))
 unfolding
     second_of body_of scan_of rsne_of timeout_of parameters_of le suite_at second_octets header_octets rsne_octets timeout_octets parameters_octets mic_octets octets suite_octets
 no_pmkid = refl
 
 -- an element of ID 244 is skipped
-pub another_order : second_of (header ++ with_mic mic ++ parameters ++ (0xf4 ∷ 0x01 ∷ 0x20 ∷ []) ++ timeout ++ rsne) ≡ some (shown pmkid mic)
+pub another_order : second_of (header ++ with_mic mic ++ parameters ++ (0xf4 ∷ 0x01 ∷ 0x20 ∷ []) ++ timeout ++ rsne) ≡ Some (shown pmkid mic)
 unfolding second_of body_of scan_of rsne_of timeout_of parameters_of le suite_at
 another_order = refl
 
-pub two_timeouts : second_of (header ++ rsne ++ timeout ++ timeout ++ parameters ++ with_mic mic) ≡ none
+pub two_timeouts : second_of (header ++ rsne ++ timeout ++ timeout ++ parameters ++ with_mic mic) ≡ None
 unfolding second_of body_of scan_of le
 two_timeouts = refl
 
-pub no_mic : second_of (header ++ rsne ++ timeout ++ parameters) ≡ none
+pub no_mic : second_of (header ++ rsne ++ timeout ++ parameters) ≡ None
 unfolding second_of body_of scan_of le
 no_mic = refl
 
-pub fragment : second_of (header ++ rsne ++ timeout ++ parameters ++ with_mic mic ++ (0xf2 ∷ 0x00 ∷ [])) ≡ none
+pub fragment : second_of (header ++ rsne ++ timeout ++ parameters ++ with_mic mic ++ (0xf2 ∷ 0x00 ∷ [])) ≡ None
 unfolding second_of body_of scan_of le
 fragment = refl
 
-pub wrapped : second_of (header ++ rsne ++ timeout ++ parameters ++ (0xff ∷ 0x01 ∷ 0x08 ∷ []) ++ with_mic mic) ≡ none
+pub wrapped : second_of (header ++ rsne ++ timeout ++ parameters ++ (0xff ∷ 0x01 ∷ 0x08 ∷ []) ++ with_mic mic) ≡ None
 unfolding second_of body_of scan_of le
 wrapped = refl
 
-pub comeback : second_of (header ++ rsne ++ timeout ++ (0xff ∷ 0x28 ∷ 0x64 ∷ 0x03 ∷ 0x00 ∷ 0x00 ∷ 0x13 ∷ 0x00 ∷ 0x21 ∷ key) ++ with_mic mic) ≡ none
+pub comeback : second_of (header ++ rsne ++ timeout ++ (0xff ∷ 0x28 ∷ 0x64 ∷ 0x03 ∷ 0x00 ∷ 0x00 ∷ 0x13 ∷ 0x00 ∷ 0x21 ∷ key) ++ with_mic mic) ≡ None
 unfolding second_of body_of scan_of rsne_of timeout_of parameters_of le suite_at
 comeback = refl
 
-pub no_key : second_of (header ++ rsne ++ timeout ++ (0xff ∷ 0x03 ∷ 0x64 ∷ 0x00 ∷ 0x00 ∷ []) ++ with_mic mic) ≡ none
+pub no_key : second_of (header ++ rsne ++ timeout ++ (0xff ∷ 0x03 ∷ 0x64 ∷ 0x00 ∷ 0x00 ∷ []) ++ with_mic mic) ≡ None
 unfolding second_of body_of scan_of rsne_of timeout_of parameters_of le suite_at
 no_key = refl
 
-pub octet_left_over : second_of (header ++ rsne ++ timeout ++ parameters ++ with_mic mic ++ (0x00 ∷ [])) ≡ none
+pub octet_left_over : second_of (header ++ rsne ++ timeout ++ parameters ++ with_mic mic ++ (0x00 ∷ [])) ≡ None
 unfolding second_of body_of scan_of le
 octet_left_over = refl
 
-pub refusal : second_of header ≡ none
+pub refusal : second_of header ≡ None
 unfolding second_of body_of scan_of le
 refusal = refl

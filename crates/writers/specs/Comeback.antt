@@ -1,6 +1,6 @@
 -- The reply that tells a station to come back: status, then PASN Parameters of control 1, format 0, Comeback After and the cookie. No other element, no MIC.
 use Rattle.std.specs.Prelude.{ℕ, ◌+◌, ◌<◌, ◌≤◌, List, ◌++◌}
-use Rattle.std.proofs.Math.Option.{none, some}
+use Rattle.std.specs.Prelude.{None, Some}
 use Rattle.parameters.specs.declared.Side.TheVariants.{AccessPoint}
 use Rattle.parameters.specs.Parameters.{parameters_size, parameters_octets}
 use Rattle.writers.specs.Header.{header_size, header_octets}
@@ -9,7 +9,7 @@ use Rattle.writers.specs.Header.{header_size, header_octets}
 unfoldable pub comeback_reply : ℕ → ℕ → ℕ → List ℕ → List ℕ
 comeback_reply algorithm status after cookie =
     header_octets algorithm 2 status
-    ++ parameters_octets AccessPoint (record { comeback = some (after, cookie); format = 0; offer = none })
+    ++ parameters_octets AccessPoint (record { comeback = Some (after, cookie); format = 0; offer = None })
 
 -- the octets of one with a cookie of c: Comeback After stands where the group would, and the cookie where the key would
 abbrev pub comeback_size : ℕ → ℕ

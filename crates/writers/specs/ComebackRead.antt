@@ -1,7 +1,7 @@
 -- Comeback information as its reader takes it, by the layouts of every frame. None unless the string is a body that walks to its end, with no Fragment, and
 -- has PASN Parameters exactly once: well-formed, B0 set, B1 clear, format 0, and a cookie of at most 32 octets. Other elements are not looked at.
 use Rattle.std.specs.Prelude.{◌≡◌, ℕ, ◌≤◌, List, eqb, leb, length}
-use Rattle.std.proofs.Math.Option.{Option, none, some}
+use Rattle.std.specs.Prelude.{Option, None, Some}
 use Rattle.octets.specs.Maybe.{◌>>=◌}
 use Rattle.elements.specs.declared.Part.{Part}
 use Rattle.elements.specs.Body.{body_of}
@@ -22,9 +22,9 @@ pub record ComebackRead : Type 0 where
 
 -- B0 set: Comeback After and a cookie
 abbrev pub is_after : Comeback → Option (ℕ × Part)
-is_after (Comeback.After after cookie) = some (after, cookie)
-is_after (Comeback.Cookie cookie) = none
-is_after Comeback.Absent = none
+is_after (Comeback.After after cookie) = Some (after, cookie)
+is_after (Comeback.Cookie cookie) = None
+is_after Comeback.Absent = None
 
 unfoldable pub comeback_in : List ℕ → Option ComebackRead
 comeback_in body = do
@@ -37,7 +37,7 @@ comeback_in body = do
   _ ← no_key parameters.offer
   _ ← holds (eqb parameters.format 0)
   _ ← holds (leb (length (content (content body (extended at_parameters)) cookie)) 32)
-  some (record {
+  Some (record {
     algorithm = header.algorithm;
     transaction = header.transaction;
     status = header.status;
@@ -48,4 +48,4 @@ comeback_in body = do
 -- a reply whose cookie its reader takes, read back, shows what was put
 abbrev pub ReadsBack : ℕ → ℕ → ℕ → List ℕ → List ℕ → Type 0
 ReadsBack algorithm status after cookie reply = length cookie ≤ 32
-    → comeback_in reply ≡ some (record { algorithm = algorithm; transaction = 2; status = status; after = after; cookie = cookie })
+    → comeback_in reply ≡ Some (record { algorithm = algorithm; transaction = 2; status = status; after = after; cookie = cookie })

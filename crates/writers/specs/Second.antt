@@ -1,6 +1,6 @@
 -- The second frame: RSNE, Timeout, PASN Parameters, MIC of zeros, each where the last one ended.
 use Rattle.std.specs.Prelude.{ℕ, ◌+◌, ◌<◌, ◌≤◌, List, ◌++◌}
-use Rattle.std.proofs.Math.Option.{none, some}
+use Rattle.std.specs.Prelude.{None, Some}
 use Rattle.suites.specs.Tables.{longest_key, longest_mic}
 use Rattle.parameters.specs.declared.Side.TheVariants.{AccessPoint}
 use Rattle.layouts.specs.Mic.{mic_size, mic_octets}
@@ -16,7 +16,7 @@ second_octets chosen pmkids key =
     header_octets chosen.algorithm 2 0
     ++ rsne_octets chosen.cipher chosen.akm pmkids
     ++ timeout_octets chosen.lifetime
-    ++ parameters_octets AccessPoint (record { comeback = none; format = 0; offer = some (chosen.group, key) })
+    ++ parameters_octets AccessPoint (record { comeback = None; format = 0; offer = Some (chosen.group, key) })
     ++ mic_octets chosen.mic
 
 -- the octets of one with p octets of PMKIDs, k of a key and m of a MIC

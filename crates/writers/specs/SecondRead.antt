@@ -1,7 +1,7 @@
 -- A second frame as its reader takes it, by the layouts of every frame. None unless the string is a body that walks to its end, with RSNE, Timeout
 -- Interval, PASN Parameters (a group and a key, no comeback information) and MIC once each, well-formed, and with no Fragment and no Wrapped Data.
 use Rattle.std.specs.Prelude.{ℕ, List}
-use Rattle.std.proofs.Math.Option.{Option, none, some}
+use Rattle.std.specs.Prelude.{Option, None, Some}
 use Rattle.octets.specs.Maybe.{◌>>=◌}
 use Rattle.units.specs.declared.Seconds.{Seconds}
 use Rattle.elements.specs.declared.Header.{Header}
@@ -35,8 +35,8 @@ pub record Second : Type 0 where
 
 -- a string that is a body
 abbrev pub is_body : Opened → Option Header
-is_body (Opened.Body header) = some header
-is_body Opened.NoBody = none
+is_body (Opened.Body header) = Some header
+is_body Opened.NoBody = None
 
 unfoldable pub second_of : List ℕ → Option Second
 second_of body = do
@@ -53,7 +53,7 @@ second_of body = do
   parameters ← is_parameters (parameters_of AccessPoint (content body (extended at_parameters)))
   _ ← no_comeback parameters.comeback
   (group, key) ← is_key parameters.offer
-  some (record {
+  Some (record {
     algorithm = header.algorithm;
     transaction = header.transaction;
     status = header.status;

@@ -6,12 +6,13 @@ use Prim.Native.Nat.{ℕ, ◌<◌}
 use native.Mathlib.Omega.{arith}
 use borrow.Author.Tests.{ne_eqb, ltb-false}
 use lib.ListN.{length}
-use mathlib.Core.Option.{Option, none, some, some-injective}
+use Rattle.std.specs.Prelude.{Option, None, Some}
+use Rattle.octets.proofs.Options.{some-injective}
 use lib.Dec.{eqb, ltb}
 use Rattle.octets.specs.Maybe.{◌>>=◌}
 use Rattle.elements.specs.declared.Part.{Part}
 use Rattle.scan.specs.declared.Places.{Places}
-use Rattle.scan.specs.declared.Times.TheVariants.{None, One}
+use Rattle.scan.specs.declared.Times.TheVariants.{Never, One}
 use Rattle.scan.specs.Scan.{scan_of}
 use Rattle.elements.specs.Lies.{Lies}
 use Rattle.parameters.specs.declared.Side.TheVariants.{Station}
@@ -31,15 +32,15 @@ use Rattle.frames.proofs.Steps.{walked_lies, once_at, rsne_read, lifetime_read, 
 
 -- the steps after the walk
 pub record FirstSteps (body : List ℕ) (places : Places) (facts : Facts) : Type 0 where
-  pub fragment : never places.fragment ≡ some tt
-  pub rsne : rsne_in body places.rsne ≡ some facts.rsne
-  pub lifetime : lifetime_in body places.timeout ≡ some facts.lifetime
-  pub offered : offered_in body places.parameters ≡ some (facts.format, facts.group, facts.key)
-  pub wrapped : wrapped_in facts.format places.wrapped ≡ some tt
+  pub fragment : never places.fragment ≡ Some tt
+  pub rsne : rsne_in body places.rsne ≡ Some facts.rsne
+  pub lifetime : lifetime_in body places.timeout ≡ Some facts.lifetime
+  pub offered : offered_in body places.parameters ≡ Some (facts.format, facts.group, facts.key)
+  pub wrapped : wrapped_in facts.format places.wrapped ≡ Some tt
 
-module _ (body : List ℕ) {places : Places} (walked : is_walked (scan_of body) ≡ some places) where
+module _ (body : List ℕ) {places : Places} (walked : is_walked (scan_of body) ≡ Some places) where
   module _ {facts : Facts} where
-    pub first_steps : first_of body ≡ some facts → FirstSteps body places facts
+    pub first_steps : first_of body ≡ Some facts → FirstSteps body places facts
     unfolding first_of
     first_steps e =
         found (never places.fragment) (rw walked at e) λ u fragment e.
@@ -62,7 +63,7 @@ module _ (body : List ℕ) {places : Places} (walked : is_walked (scan_of body) 
           wrapped = rw (one_wrapped, unreserved, as_said);
         })
 
-    pub first_made : FirstSteps body places facts → first_of body ≡ some facts
+    pub first_made : FirstSteps body places facts → first_of body ≡ Some facts
     unfolding first_of
     first_made s =
         found (once places.rsne) s.rsne λ at_rsne one_rsne e.
@@ -93,18 +94,18 @@ module _ (body : List ℕ) {places : Places} (walked : is_walked (scan_of body) 
           ap (λ (x : ℕ × ℕ × Part). x.2) told,
         )
 
-  pub first_ill : ((facts : Facts) → FirstSteps body places facts → ⊥) → none ≡ first_of body
+  pub first_ill : ((facts : Facts) → FirstSteps body places facts → ⊥) → None ≡ first_of body
   first_ill h = nothing (first_of body) λ facts e. h facts (first_steps e)
 
   -- where the Wrapped Data is not as the format says
-  pub first_unwrapped : {offered : ℕ × ℕ × Part} → offered_in body places.parameters ≡ some offered → none ≡ wrapped_in offered.0 places.wrapped
-      → none ≡ first_of body
+  pub first_unwrapped : {offered : ℕ × ℕ × Part} → offered_in body places.parameters ≡ Some offered → None ≡ wrapped_in offered.0 places.wrapped
+      → None ≡ first_of body
   first_unwrapped o e =
       first_ill λ facts s.
       apart (rw (ap (λ (x : ℕ × ℕ × Part). x.0) (some-injective _ _ (sym o ∙ s.offered))) at e) s.wrapped
 
 -- What a first frame tells lies within its body.
-pub first_lies : (body : List ℕ) {facts : Facts} → first_of body ≡ some facts → FactsLie (length body) facts
+pub first_lies : (body : List ℕ) {facts : Facts} → first_of body ≡ Some facts → FactsLie (length body) facts
 unfolding first_of
 first_lies body {facts} e =
     found (is_walked (scan_of body)) e λ places walked rest.
@@ -130,13 +131,13 @@ abbrev pub Asks : Lifetime → Type 0
 Asks (Lifetime.Asked seconds) = 0 < seconds.0
 Asks Lifetime.Unasked = Unit {0}
 
-lifetime_asks : (body : List ℕ) (at : Option Part) {lifetime : Lifetime} → lifetime_at body at ≡ some lifetime → Asks lifetime
-lifetime_asks body none e = subst Asks (some-injective _ _ e) tt
-lifetime_asks body (some at) e =
+lifetime_asks : (body : List ℕ) (at : Option Part) {lifetime : Lifetime} → lifetime_at body at ≡ Some lifetime → Asks lifetime
+lifetime_asks body None e = subst Asks (some-injective _ _ e) tt
+lifetime_asks body (Some at) e =
     found (is_lifetime (timeout_of (content body at))) e λ seconds reads told.
     subst Asks (some-injective _ _ told) (timeout_asks (content body at) (lifetime_read (timeout_of (content body at)) reads))
 
-pub first_asks : (body : List ℕ) {facts : Facts} → first_of body ≡ some facts → Asks facts.lifetime
+pub first_asks : (body : List ℕ) {facts : Facts} → first_of body ≡ Some facts → Asks facts.lifetime
 unfolding first_of
 first_asks body e =
     found (is_walked (scan_of body)) e λ places walked rest.
@@ -145,7 +146,7 @@ first_asks body e =
 
 -- Wrapped Data that is not there, or there once, as its reader tests the format.
 module _ (format : ℕ) where
-  pub absent_fits : holds (eqb format 0) ≡ wrapped_in format None
+  pub absent_fits : holds (eqb format 0) ≡ wrapped_in format Never
   absent_fits = go (ltb format 4) refl
     where
       go : (b : Bool) → ltb format 4 ≡ b → holds (eqb format 0) ≡ (holds b >>= λ u. holds (eqb format 0))
@@ -155,6 +156,6 @@ module _ (format : ℕ) where
   pub present_fits : (p : Part) → (format ≡ 0 → ⊥) → holds (ltb format 4) ≡ wrapped_in format (One p)
   present_fits p h = rw (ne_eqb format 0 h) (go (ltb format 4))
     where
-      go : (b : Bool) → holds b ≡ (holds b >>= λ u. some tt)
+      go : (b : Bool) → holds b ≡ (holds b >>= λ u. Some tt)
       go true = refl
       go false = refl

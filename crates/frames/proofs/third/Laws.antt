@@ -1,7 +1,8 @@
 -- A third frame that is read: its steps, by element, and where its MIC lies.
 use mathlib.Core.Path.{◌≡◌, refl, sym, subst}
 use mathlib.Core.List.{List}
-use mathlib.Core.Option.{Option, none, some, some-injective}
+use Rattle.std.specs.Prelude.{Option, None, Some}
+use Rattle.octets.proofs.Options.{some-injective}
 use Prim.Native.Nat.{ℕ, ◌-◌}
 use lib.Dec.{eqb}
 use lib.ListN.{length}
@@ -20,14 +21,14 @@ use Rattle.frames.proofs.Steps.{walked_lies, once_at}
 
 -- the steps after the walk
 pub record ThirdSteps (body : List ℕ) (n : ℕ) (places : Places) (mic : Part) : Type 0 where
-  pub fragment : never places.fragment ≡ some tt
-  pub wrapped : never places.wrapped ≡ some tt
-  pub quiet : quiet_in body places.parameters ≡ some tt
-  pub told : mic_in places.mic n ≡ some mic
+  pub fragment : never places.fragment ≡ Some tt
+  pub wrapped : never places.wrapped ≡ Some tt
+  pub quiet : quiet_in body places.parameters ≡ Some tt
+  pub told : mic_in places.mic n ≡ Some mic
 
-module _ (body : List ℕ) (n : ℕ) {places : Places} (walked : is_walked (scan_of body) ≡ some places) where
+module _ (body : List ℕ) (n : ℕ) {places : Places} (walked : is_walked (scan_of body) ≡ Some places) where
   module _ {mic : Part} where
-    pub third_steps : third_of body n ≡ some mic → ThirdSteps body n places mic
+    pub third_steps : third_of body n ≡ Some mic → ThirdSteps body n places mic
     unfolding third_of
     third_steps e =
         found (never places.fragment) (rw walked at e) λ u fragment e.
@@ -46,7 +47,7 @@ module _ (body : List ℕ) (n : ℕ) {places : Places} (walked : is_walked (scan
           told = rw (one_mic, long) e;
         }
 
-    pub third_made : ThirdSteps body n places mic → third_of body n ≡ some mic
+    pub third_made : ThirdSteps body n places mic → third_of body n ≡ Some mic
     unfolding third_of
     third_made s =
         found (once places.parameters) s.quiet λ at_parameters one_parameters e.
@@ -57,20 +58,20 @@ module _ (body : List ℕ) (n : ℕ) {places : Places} (walked : is_walked (scan
         found (holds (eqb (at_mic.end - at_mic.start) n)) e λ z long told.
         rw (walked, s.fragment, one_parameters, one_mic, says, b0, b1, format, s.wrapped, long) told
 
-  pub third_ill : ((mic : Part) → ThirdSteps body n places mic → ⊥) → none ≡ third_of body n
+  pub third_ill : ((mic : Part) → ThirdSteps body n places mic → ⊥) → None ≡ third_of body n
   third_ill h = nothing (third_of body n) λ mic e. h mic (third_steps e)
 
   -- where all but the MIC is as it should be
-  pub third_mic : never places.fragment ≡ some tt → never places.wrapped ≡ some tt → quiet_in body places.parameters ≡ some tt
+  pub third_mic : never places.fragment ≡ Some tt → never places.wrapped ≡ Some tt → quiet_in body places.parameters ≡ Some tt
       → mic_in places.mic n ≡ third_of body n
   third_mic fragment wrapped quiet = go (mic_in places.mic n) refl
     where
       go : (o : Option Part) → mic_in places.mic n ≡ o → o ≡ third_of body n
-      go none e = third_ill λ mic s. apart (sym e) s.told
-      go (some mic) e = sym (third_made (record { fragment = fragment; wrapped = wrapped; quiet = quiet; told = e }))
+      go None e = third_ill λ mic s. apart (sym e) s.told
+      go (Some mic) e = sym (third_made (record { fragment = fragment; wrapped = wrapped; quiet = quiet; told = e }))
 
 -- The MIC of a third frame lies within its body.
-pub third_lies : (body : List ℕ) (n : ℕ) {mic : Part} → third_of body n ≡ some mic → Lies 0 (length body) mic
+pub third_lies : (body : List ℕ) (n : ℕ) {mic : Part} → third_of body n ≡ Some mic → Lies 0 (length body) mic
 unfolding third_of
 third_lies body n e =
     found (is_walked (scan_of body)) e λ places walked rest.

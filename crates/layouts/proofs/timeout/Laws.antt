@@ -21,7 +21,7 @@ length_timeout l = omega (arith, length_octets 4 l.0)
 
 pub timeout_reads_back : (l : Seconds) → 0 < l.0 → l.0 < 2 ^ 32 → timeout_of (drop 2 (timeout_octets l)) ≡ Lifetime l
 unfolding timeout_of timeout_octets
-timeout_reads_back l some small =
+timeout_reads_back l Some small =
     let seconds : le 4 (2 ∷ octets 4 l.0) 1 ≡ l.0 = le_append_right 4 (2 ∷ []) (octets 4 l.0) 0 ∙ le_octets 4 l.0 small in
     simp (length_octets 4 l.0, seconds, ne_eqb l.0 0 (λ e. omega arith))
 
@@ -37,5 +37,5 @@ timeout_asks s e = rw e at asks
     asks =
         unless Asks (not (eqb (length s) 5)) tt λ long.
         unless Asks (not (eqb (get_or s 0 0) 2)) tt λ kind.
-        unless Asks (eqb (le 4 s 1) 0) tt λ some.
-        omega (arith, eqb-false (le 4 s 1) 0 some)
+        unless Asks (eqb (le 4 s 1) 0) tt λ Some.
+        omega (arith, eqb-false (le 4 s 1) 0 Some)

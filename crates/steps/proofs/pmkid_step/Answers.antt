@@ -1,7 +1,7 @@
 use mathlib.Core.Path.{◌≡◌, refl, sym, ap, ◌∙◌}
 use mathlib.Core.Bool.{Bool, true, false}
 use mathlib.Core.List.{List}
-use mathlib.Core.Option.{none, some}
+use Rattle.std.specs.Prelude.{None, Some}
 use Prim.Native.Nat.{ℕ}
 use lib.ListN.{replicate}
 use Rattle.std.specs.Prelude.{if◌then◌else◌}
@@ -13,7 +13,7 @@ use Rattle.rules.proofs.Pmkids.{in_list, that_part}
 use Rattle.steps.proofs.pmkid_step.Goals as goal
 
 -- with AKM 21: none listed, or refused
-by_none : (none_listed : Bool) → record { passed = none_listed; cached = false; pmkid = replicate 16 0 } ≡ pmkid_step_of (if none_listed then pass none else refuse Refusal.Pmkid)
+by_none : (none_listed : Bool) → record { passed = none_listed; cached = false; pmkid = replicate 16 0 } ≡ pmkid_step_of (if none_listed then pass None else refuse Refusal.Pmkid)
 by_none true = refl
 by_none false = refl
 
@@ -26,7 +26,7 @@ pmkid_at-chosen-requires c =
 
 pub returns-then-akm : goal.returns-then-akm
 returns-then-akm c =
-    rw (c.if-akm.true, sym c.choose-choice.ensures ∙ c.in-Chosen.is) (ap (λ (l : List ℕ). pmkid_step_of (pass (some l))) (c.pmkid_at-chosen.ensures ∙ sym (that_part (records_of c.args.file.now) c.args.pmkids.now c.args.akm.kind c.args.reading (sym c.choose-choice.ensures ∙ c.in-Chosen.is))))
+    rw (c.if-akm.true, sym c.choose-choice.ensures ∙ c.in-Chosen.is) (ap (λ (l : List ℕ). pmkid_step_of (pass (Some l))) (c.pmkid_at-chosen.ensures ∙ sym (that_part (records_of c.args.file.now) c.args.pmkids.now c.args.akm.kind c.args.reading (sym c.choose-choice.ensures ∙ c.in-Chosen.is))))
 
 pub returns : goal.returns
 returns c = rw c.if-akm.false (by_none _)

@@ -1,7 +1,8 @@
 -- A reply that tells to come back: how long it is, and that it reads back.
 use mathlib.Core.Path.{◌≡◌, sym, ap, ◌∙◌}
 use mathlib.Core.List.{List, [], append-nil}
-use mathlib.Core.Option.{none, some, some-injective}
+use Rattle.std.specs.Prelude.{None, Some}
+use Rattle.octets.proofs.Options.{some-injective}
 use Prim.Native.Nat.{ℕ, ◌+◌, ◌*◌, ◌/◌, ◌%◌, ◌^◌, ◌<◌, ◌≤◌}
 use native.Mathlib.Omega.{arith}
 use borrow.Author.Tests.{le-leb}
@@ -10,7 +11,7 @@ use Rattle.octets.specs.Numbers.{octets}
 use Rattle.elements.specs.declared.Part.{Part}
 use Rattle.elements.proofs.Written.{written_none, written_more}
 use Rattle.scan.specs.declared.Scan.{Scan}
-use Rattle.scan.specs.declared.Times.TheVariants.{None, One}
+use Rattle.scan.specs.declared.Times.TheVariants.{Never, One}
 use Rattle.scan.specs.Scan.{places_of, scan_by, scan_of}
 use Rattle.scan.proofs.Scanning.{in_body}
 use Rattle.parameters.specs.declared.Side.TheVariants.{AccessPoint}
@@ -33,7 +34,7 @@ module _ (algorithm status after : ℕ) (cookie : List ℕ) where
   header = header_octets algorithm 2 status
 
   abbrev said : Said AccessPoint
-  said = record { comeback = some (after, cookie); format = 0; offer = none }
+  said = record { comeback = Some (after, cookie); format = 0; offer = None }
 
   abbrev parameters : List ℕ
   parameters = parameters_octets AccessPoint said
@@ -47,7 +48,7 @@ module _ (algorithm status after : ℕ) (cookie : List ℕ) where
   in_parameters = record { start = 8; end = length cookie + 14 }
 
   scanned : length s ≤ 1024
-      → scan_of s ≡ Scan.Walked (record { rsne = None; timeout = None; mic = None; fragment = None; parameters = One in_parameters; wrapped = None })
+      → scan_of s ≡ Scan.Walked (record { rsne = Never; timeout = Never; mic = Never; fragment = Never; parameters = One in_parameters; wrapped = Never })
   unfolding comeback_reply parameters_octets places_of
   scanned h =
       let w₀ = written_none header {n = 6} (length_header algorithm 2 status) in
@@ -59,7 +60,7 @@ module _ (algorithm status after : ℕ) (cookie : List ℕ) where
   parameters_content = part_content s header parameters [] 3 (extended in_parameters) (sym (append-nil s)) (simp (length_header, length_come_back) (omega arith))
 
   reads : algorithm < 2 ^ 16 → status < 2 ^ 16 → after < 2 ^ 16 → length cookie ≤ 32
-      → comeback_in s ≡ some (record { algorithm = algorithm; transaction = 2; status = status; after = after; cookie = cookie })
+      → comeback_in s ≡ Some (record { algorithm = algorithm; transaction = 2; status = status; after = after; cookie = cookie })
   unfolding comeback_in comeback_reply
   reads a t n c =
       let fits : length s ≤ 1024 = omega (arith, length_comeback) in
@@ -94,6 +95,6 @@ low_octets algorithm status after cookie = rw (two_octets after)
 -- numbers of two octets, and a cookie of at most 32
 pub comeback_reads_back : (algorithm status after : ℕ) (cookie : List ℕ) → algorithm < 2 ^ 16 → status < 2 ^ 16 → length cookie ≤ 32
     → comeback_in (comeback_reply algorithm status after cookie)
-    ≡ some (record { algorithm = algorithm; transaction = 2; status = status; after = after % 2 ^ 16; cookie = cookie })
+    ≡ Some (record { algorithm = algorithm; transaction = 2; status = status; after = after % 2 ^ 16; cookie = cookie })
 comeback_reads_back algorithm status after cookie a t c =
     ap comeback_in (low_octets algorithm status after cookie) ∙ reads algorithm status (after % 2 ^ 16) cookie a t (omega arith) c

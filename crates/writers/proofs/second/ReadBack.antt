@@ -1,7 +1,8 @@
 -- A second frame, read back, shows exactly what was chosen.
 use mathlib.Core.Path.{◌≡◌, refl, sym, ap, ◌∙◌}
 use mathlib.Core.List.{List, [], ◌++◌, append_assoc, append-nil}
-use mathlib.Core.Option.{none, some, some-injective}
+use Rattle.std.specs.Prelude.{None, Some}
+use Rattle.octets.proofs.Options.{some-injective}
 use Prim.Native.Nat.{ℕ, ◌+◌, ◌-◌, ◌*◌, ◌^◌, ◌<◌, ◌≤◌}
 use native.Mathlib.Nat.{add-sub_cancel}
 use native.Mathlib.Omega.{arith}
@@ -11,7 +12,7 @@ use Rattle.octets.specs.Numbers.{octets}
 use Rattle.elements.specs.declared.Opened.{Opened}
 use Rattle.elements.specs.declared.Part.{Part}
 use Rattle.scan.specs.declared.Scan.{Scan}
-use Rattle.scan.specs.declared.Times.TheVariants.{None, One}
+use Rattle.scan.specs.declared.Times.TheVariants.{Never, One}
 use Rattle.elements.specs.Body.{body_of}
 use Rattle.scan.specs.Scan.{places_of, scan_by, scan_of}
 use Rattle.scan.proofs.Scanning.{in_body}
@@ -70,7 +71,7 @@ module _ (chosen : Chosen) (pmkids key : List ℕ) where
   timeout = timeout_octets chosen.lifetime
 
   abbrev said : Said AccessPoint
-  said = record { comeback = none; format = 0; offer = some (chosen.group, key) }
+  said = record { comeback = None; format = 0; offer = Some (chosen.group, key) }
 
   abbrev parameters : List ℕ
   parameters = parameters_octets AccessPoint said
@@ -92,7 +93,7 @@ module _ (chosen : Chosen) (pmkids key : List ℕ) where
   in_mic = record { start = length pmkids + length key + 51; end = length pmkids + length key + chosen.mic + 51 }
 
   second_scanned : length s ≤ 1024
-      → scan_of s ≡ Scan.Walked (record { rsne = One in_rsne; timeout = One in_timeout; mic = One in_mic; fragment = None; parameters = One in_parameters; wrapped = None })
+      → scan_of s ≡ Scan.Walked (record { rsne = One in_rsne; timeout = One in_timeout; mic = One in_mic; fragment = Never; parameters = One in_parameters; wrapped = Never })
   unfolding second_octets rsne_octets timeout_octets parameters_octets mic_octets places_of
   second_scanned h =
       let w₀ = written_none header {n = 6} (length_header chosen.algorithm 2 0) in
@@ -125,7 +126,7 @@ module _ (chosen : Chosen) (pmkids key : List ℕ) where
 
   pub second_reads_back : (p : ℕ) → Readable chosen pmkids key p
       → second_of (second_octets chosen pmkids key)
-      ≡ some (record {
+      ≡ Some (record {
         algorithm = chosen.algorithm;
         transaction = 2;
         status = 0;

@@ -6,8 +6,8 @@ use Rattle.frames.proofs.contents.read_lifetime.Goals as goal
 pub slice_bounds-read-count : goal.slice_bounds-read-count
 slice_bounds-read-count c = omega (arith, one_lies c.in-One.is c.requires)
 
-pub returns-in-None : goal.returns-in-None
-returns-in-None c = rw c.in-None.is
+pub returns-in-Never : goal.returns-in-Never
+returns-in-Never c = rw c.in-Never.is
 
 pub returns-in-Lifetime : goal.returns-in-Lifetime
 returns-in-Lifetime c = rw (c.in-One.is, sym c.read-reading.ensures ∙ c.in-Lifetime.is)

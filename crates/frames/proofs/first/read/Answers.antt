@@ -14,7 +14,7 @@ returns-in_default c = rw (sym c.scan_body-scan.ensures ∙ c.in_default.is)
 
 pub returns-in_default-fragment : goal.returns-in_default-fragment
 returns-in_default-fragment c =
-    first_ill _ (ap is_walked (sym c.scan_body-scan.ensures ∙ c.in-Walked.is)) λ facts s. apart (not_none c.in-Walked.p.fragment c.in_default-fragment.not-None) s.fragment
+    first_ill _ (ap is_walked (sym c.scan_body-scan.ensures ∙ c.in-Walked.is)) λ facts s. apart (not_none c.in-Walked.p.fragment c.in_default-fragment.not-Never) s.fragment
 
 pub read_rsne-reading-requires : goal.read_rsne-reading-requires
 read_rsne-reading-requires c = (walked_lies _ (ap is_walked (sym c.scan_body-scan.ensures ∙ c.in-Walked.is))).rsne
@@ -40,7 +40,7 @@ returns-in_default-offered c =
 pub returns-then-wrapped_fits : goal.returns-then-wrapped_fits
 returns-then-wrapped_fits c =
     sym (first_made _ (ap is_walked (sym c.scan_body-scan.ensures ∙ c.in-Walked.is)) (record {
-      fragment = ap never c.in-None.is;
+      fragment = ap never c.in-Never.is;
       rsne = sym c.read_rsne-reading.ensures ∙ ap is_rsne c.in-Is.is;
       lifetime = sym c.read_lifetime-reading.ensures ∙ ap is_lifetime_reading c.in-Is-reading.is;
       offered = sym c.read_offered-offered.ensures ∙ ap is_offered c.in-Key.is;

@@ -13,11 +13,11 @@ returns-in_default c = rw (sym c.scan_body-scan.ensures ∙ c.in_default.is)
 
 pub returns-in_default-fragment : goal.returns-in_default-fragment
 returns-in_default-fragment c =
-    third_ill _ _ (ap is_walked (sym c.scan_body-scan.ensures ∙ c.in-Walked.is)) λ mic s. apart (not_none c.in-Walked.p.fragment c.in_default-fragment.not-None) s.fragment
+    third_ill _ _ (ap is_walked (sym c.scan_body-scan.ensures ∙ c.in-Walked.is)) λ mic s. apart (not_none c.in-Walked.p.fragment c.in_default-fragment.not-Never) s.fragment
 
 pub returns-in_default-wrapped : goal.returns-in_default-wrapped
 returns-in_default-wrapped c =
-    third_ill _ _ (ap is_walked (sym c.scan_body-scan.ensures ∙ c.in-Walked.is)) λ mic s. apart (not_none c.in-Walked.p.wrapped c.in_default-wrapped.not-None) s.wrapped
+    third_ill _ _ (ap is_walked (sym c.scan_body-scan.ensures ∙ c.in-Walked.is)) λ mic s. apart (not_none c.in-Walked.p.wrapped c.in_default-wrapped.not-Never) s.wrapped
 
 pub is_quiet-requires : goal.is_quiet-requires
 is_quiet-requires c = (walked_lies _ (ap is_walked (sym c.scan_body-scan.ensures ∙ c.in-Walked.is))).parameters
@@ -28,7 +28,7 @@ mic_of-requires c = ordered _ c.in-Walked.p.mic (walked_lies _ (ap is_walked (sy
 pub returns-then-is_quiet : goal.returns-then-is_quiet
 returns-then-is_quiet c =
     c.mic_of.ensures
-    ∙ third_mic _ _ (ap is_walked (sym c.scan_body-scan.ensures ∙ c.in-Walked.is)) (ap never c.in-None.is) (ap never c.in-None-wrapped.is)
+    ∙ third_mic _ _ (ap is_walked (sym c.scan_body-scan.ensures ∙ c.in-Walked.is)) (ap never c.in-Never.is) (ap never c.in-Never-wrapped.is)
     (sym c.is_quiet.ensures ∙ ap holds c.if-is_quiet.true)
 
 pub returns : goal.returns

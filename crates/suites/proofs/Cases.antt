@@ -4,10 +4,9 @@ use mathlib.Core.Path.{◌≡◌, refl}
 use mathlib.Core.Bool.{Bool, true, false}
 use mathlib.Core.List.{List, [], ◌∷◌}
 use lib.ListN.{replicate}
-use Rattle.std.specs.List.{find}
-use Rattle.suites.specs.declared.AkmEntry.{AkmEntry}
-use Rattle.suites.specs.declared.CipherEntry.{CipherEntry}
-use Rattle.suites.specs.declared.GroupEntry.{GroupEntry}
+use Rattle.std.specs.Prelude.{Option, None, Some}
+use Rattle.std.specs.Option.{option_map_or}
+use Rattle.suites.specs.declared.Group.{Group}
 use Rattle.suites.specs.declared.Suite.TheVariants.{Ours, Other}
 use Rattle.suites.specs.Suite.{suite_at, suite_octets}
 use Rattle.suites.specs.Tables.{akm_of, cipher_of, group_of, is_key_of}
@@ -24,50 +23,49 @@ pub written : suite_octets 8 ≡ 0x00 ∷ 0x0f ∷ 0xac ∷ 0x08 ∷ []
 unfolding suite_octets
 written = refl
 
-pub akm_5 : akm_of 5 ≡ AkmEntry.In record { kind = 5; mic = 16; pmk = true }
+pub akm_5 : akm_of 5 ≡ Some record { kind = 5; mic = 16; pmk = true }
 unfolding akm_of
 akm_5 = refl
 
-pub akm_8 : akm_of 8 ≡ AkmEntry.In record { kind = 8; mic = 16; pmk = true }
+pub akm_8 : akm_of 8 ≡ Some record { kind = 8; mic = 16; pmk = true }
 unfolding akm_of
 akm_8 = refl
 
-pub akm_21 : akm_of 21 ≡ AkmEntry.In record { kind = 21; mic = 16; pmk = false }
+pub akm_21 : akm_of 21 ≡ Some record { kind = 21; mic = 16; pmk = false }
 unfolding akm_of
 akm_21 = refl
 
-pub no_akm_2 : akm_of 2 ≡ AkmEntry.NotInTable
+pub no_akm_2 : akm_of 2 ≡ None
 unfolding akm_of
 no_akm_2 = refl
 
-pub no_akm_24 : akm_of 24 ≡ AkmEntry.NotInTable
+pub no_akm_24 : akm_of 24 ≡ None
 unfolding akm_of
 no_akm_24 = refl
 
-pub cipher_10 : cipher_of 10 ≡ CipherEntry.In record { kind = 10; flag = 8 }
+pub cipher_10 : cipher_of 10 ≡ Some record { kind = 10; flag = 8 }
 unfolding cipher_of
 cipher_10 = refl
 
 -- the group cipher is no pairwise one
-pub no_cipher_7 : cipher_of 7 ≡ CipherEntry.NotInTable
+pub no_cipher_7 : cipher_of 7 ≡ None
 unfolding cipher_of
 no_cipher_7 = refl
 
 pub group_19 :
     group_of 19
-    ≡ GroupEntry.In
-    record { number = 19; compressed = record { length = 33; lowest = 2; highest = 3 }; uncompressed = record { length = 65; lowest = 4; highest = 4 } }
+    ≡ Some
+    (record { number = 19; compressed = record { length = 33; lowest = 2; highest = 3 }; uncompressed = record { length = 65; lowest = 4; highest = 4 } })
 unfolding group_of
 group_19 = refl
 
-pub no_group_20 : group_of 20 ≡ GroupEntry.NotInTable
+pub no_group_20 : group_of 20 ≡ None
 unfolding group_of
 no_group_20 = refl
 
 -- whether octets are a key of a group in the table
-abbrev key_of : GroupEntry → List ℕ → Bool
-key_of (GroupEntry.In group) key = is_key_of group key
-key_of GroupEntry.NotInTable key = false
+abbrev key_of : Option Group → List ℕ → Bool
+key_of group key = option_map_or (λ g. is_key_of g key) group false
 
 pub compressed_2 : key_of (group_of 19) (2 ∷ replicate 32 0) ≡ true
 unfolding group_of is_key_of

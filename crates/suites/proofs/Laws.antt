@@ -6,22 +6,20 @@ use mathlib.Core.List.{List, ◌++◌}
 use mathlib.Core.Logic.{⊎_elim}
 use native.Mathlib.Nat.{add-zero, zero-add, add_assoc}
 use native.Mathlib.Omega.{arith}
-use lib.Dec.{leb}
+use lib.Dec.{eqb, leb}
 use lib.ListN.{length, drop, get_or}
 use lib.Seq.{get_or-drop, get_or-append-add}
 use borrow.Author.Tests.{eqb-true, leb-true}
+use Rattle.std.specs.Prelude.{Some}
 use Rattle.octets.proofs.Logic.{both, either}
+use Rattle.octets.proofs.Search.{first_found}
 use Rattle.suites.specs.declared.Akm.{Akm}
-use Rattle.suites.specs.declared.AkmEntry.{AkmEntry}
 use Rattle.suites.specs.declared.Cipher.{Cipher}
-use Rattle.suites.specs.declared.CipherEntry.{CipherEntry}
 use Rattle.suites.specs.declared.KeyForm.{KeyForm}
 use Rattle.suites.specs.declared.Group.{Group}
-use Rattle.suites.specs.declared.GroupEntry.{GroupEntry}
 use Rattle.suites.specs.declared.Suite.TheVariants.{Ours}
 use Rattle.suites.specs.Suite.{suite_at, suite_octets}
 use Rattle.suites.specs.Tables.{akms, longest_mic, akm_of, ciphers, cipher_of, groups, longest_key, group_of, has_form, is_key_of}
-use Rattle.suites.proofs.Lookup.{looked_up}
 
 pub record Within (low high n : ℕ) : Type 0 where
   pub least : low ≤ n
@@ -39,21 +37,21 @@ pub record AkmFound (kind : ℕ) (akm : Akm) : Type 0 where
   pub asked : akm.kind ≡ kind
   pub mic : Within 1 longest_mic akm.mic
 
-pub akm_found : {kind : ℕ} {akm : Akm} → akm_of kind ≡ AkmEntry.In akm → AkmFound kind akm
+pub akm_found : {kind : ℕ} {akm : Akm} → akm_of kind ≡ Some akm → AkmFound kind akm
 unfolding akm_of
 akm_found {kind} {akm} e =
-    let p = looked_up (λ (a : Akm). a.kind) akms kind AkmEntry.In AkmEntry.NotInTable (λ x y q. cc) (λ x q. cc) (λ a. within 1 longest_mic a.mic) refl akm e in
-    record { asked = p.0; mic = is_within _ _ _ p.1 }
+    let p = first_found (λ (a : Akm). eqb a.kind kind) (λ a. within 1 longest_mic a.mic) akms akm refl e in
+    record { asked = eqb-true _ _ p.0; mic = is_within _ _ _ p.1 }
 
 pub record CipherFound (kind : ℕ) (cipher : Cipher) : Type 0 where
   pub asked : cipher.kind ≡ kind
   pub flag : Within 1 15 cipher.flag
 
-pub cipher_found : {kind : ℕ} {cipher : Cipher} → cipher_of kind ≡ CipherEntry.In cipher → CipherFound kind cipher
+pub cipher_found : {kind : ℕ} {cipher : Cipher} → cipher_of kind ≡ Some cipher → CipherFound kind cipher
 unfolding cipher_of
 cipher_found {kind} {cipher} e =
-    let p = looked_up (λ (c : Cipher). c.kind) ciphers kind CipherEntry.In CipherEntry.NotInTable (λ x y q. cc) (λ x q. cc) (λ c. within 1 15 c.flag) refl cipher e in
-    record { asked = p.0; flag = is_within _ _ _ p.1 }
+    let p = first_found (λ (c : Cipher). eqb c.kind kind) (λ c. within 1 15 c.flag) ciphers cipher refl e in
+    record { asked = eqb-true _ _ p.0; flag = is_within _ _ _ p.1 }
 
 pub record GroupFound (number : ℕ) (group : Group) : Type 0 where
   pub asked : group.number ≡ number
@@ -63,14 +61,14 @@ form_length : (key : List ℕ) (form : KeyForm) → has_form key form ≡ true �
 unfolding has_form
 form_length key form e = eqb-true _ _ (both _ _ (both _ _ (both _ _ e).0).0).0
 
-pub group_found : {number : ℕ} {group : Group} → group_of number ≡ GroupEntry.In group → GroupFound number group
+pub group_found : {number : ℕ} {group : Group} → group_of number ≡ Some group → GroupFound number group
 unfolding group_of is_key_of
 group_found {number} {group} e =
     let lengths : Group → Bool = λ g. within 1 longest_key g.compressed.length && within 1 longest_key g.uncompressed.length in
-    let p = looked_up (λ (g : Group). g.number) groups number GroupEntry.In GroupEntry.NotInTable (λ x y q. cc) (λ x q. cc) lengths refl group e in
+    let p = first_found (λ (g : Group). eqb g.number number) lengths groups group refl e in
     let w = both _ _ p.1 in
     record {
-      asked = p.0;
+      asked = eqb-true _ _ p.0;
       keys = λ key k.
           ⊎_elim
           (λ q. rw (form_length key group.compressed q) (is_within _ _ _ w.0))

@@ -1,14 +1,10 @@
 -- The suites and groups stand in fixed tables.
-use Rattle.std.specs.Prelude.{ℕ, Bool, true, false, ◌&&◌, ◌||◌, not, List, [], ◌∷◌, eqb, leb, length, get_or, if◌then◌else◌}
-use Rattle.std.specs.List.{find}
-use Rattle.octets.specs.Search.{entry}
+use Rattle.std.specs.Prelude.{ℕ, Bool, true, false, ◌&&◌, ◌||◌, not, Option, List, [], ◌∷◌, eqb, leb, length, get_or, if◌then◌else◌}
+use Rattle.std.specs.List.{find, list_any}
 use Rattle.suites.specs.declared.Akm.{Akm}
-use Rattle.suites.specs.declared.AkmEntry.{AkmEntry}
 use Rattle.suites.specs.declared.Cipher.{Cipher}
-use Rattle.suites.specs.declared.CipherEntry.{CipherEntry}
 use Rattle.suites.specs.declared.KeyForm.{KeyForm}
 use Rattle.suites.specs.declared.Group.{Group}
-use Rattle.suites.specs.declared.GroupEntry.{GroupEntry}
 
 -- the greater of two numbers, and the greatest number of a table's entries
 abbrev greater : ℕ → ℕ → ℕ
@@ -17,10 +13,6 @@ greater m n = if leb m n then n else m
 abbrev greatest : {A : Type 0} → (A → ℕ) → List A → ℕ
 greatest number [] = 0
 greatest number (x ∷ xs) = greater (number x) (greatest number xs)
-
--- the entry of a table that has a number, as an answer, or the answer where no entry has it
-abbrev pub look_up : {A B : Type 0} → (A → ℕ) → List A → ℕ → (A → B) → B → B
-look_up number table n found missing = entry found missing (find (λ x. eqb (number x) n) table)
 
 -- AKM types 5, 6, 8 and 21, each with a MIC of 16 octets; 21 is PASN itself, with no PMK
 abbrev pub akms : List Akm
@@ -35,12 +27,12 @@ akms =
 abbrev pub longest_mic : ℕ
 longest_mic = greatest (λ (a : Akm). a.mic) akms
 
-unfoldable pub akm_of : ℕ → AkmEntry
-akm_of kind = look_up (λ (a : Akm). a.kind) akms kind AkmEntry.In AkmEntry.NotInTable
+unfoldable pub akm_of : ℕ → Option Akm
+akm_of kind = find (λ (a : Akm). eqb a.kind kind) akms
 
 -- whether a MIC of n octets goes with an AKM of the table
 unfoldable pub is_mic_length : ℕ → Bool
-is_mic_length n = look_up (λ (a : Akm). a.mic) akms n (λ (a : Akm). true) false
+is_mic_length n = list_any (λ (a : Akm). eqb a.mic n) akms
 
 -- the group cipher, and the group management cipher
 abbrev pub group_cipher : ℕ
@@ -55,8 +47,8 @@ ciphers =
     ∷ record { kind = 10; flag = 8 }
     ∷ []
 
-unfoldable pub cipher_of : ℕ → CipherEntry
-cipher_of kind = look_up (λ (c : Cipher). c.kind) ciphers kind CipherEntry.In CipherEntry.NotInTable
+unfoldable pub cipher_of : ℕ → Option Cipher
+cipher_of kind = find (λ (c : Cipher). eqb c.kind kind) ciphers
 
 -- group 19, with key length 33 (first octet 2 or 3) or 65 (first octet 4)
 abbrev pub groups : List Group
@@ -72,8 +64,8 @@ groups =
 abbrev pub longest_key : ℕ
 longest_key = greatest (λ (g : Group). greater g.compressed.length g.uncompressed.length) groups
 
-unfoldable pub group_of : ℕ → GroupEntry
-group_of number = look_up (λ (g : Group). g.number) groups number GroupEntry.In GroupEntry.NotInTable
+unfoldable pub group_of : ℕ → Option Group
+group_of number = find (λ (g : Group). eqb g.number number) groups
 
 -- whether a key has a form: its length, and its first octet
 unfoldable pub has_form : List ℕ → KeyForm → Bool

@@ -13,8 +13,8 @@ pub const OUI_1: u8 = 0x0f;
 
 pub const OUI_2: u8 = 0xac;
 
-// A suite in a frame: one that counts, with its type, or one of another selector.
-#[derive(Clone, Copy)]
+// A suite in a frame: one that counts, with its type, or one of another selector. An RSNE may lack one, and `Option<Option<u8>>` would read no plainer.
+#[derive(Clone, Copy, PartialEq, Eq)]
 pub enum Suite {
     Ours(u8),
     Other,
@@ -25,14 +25,11 @@ pub fn suite_at(s: &[u8], at: usize) -> Suite
     requires { at + 4 ≤ length s.now }
     ensures { result ≡ suite_at s.now at }
 {
-    if s[at] == OUI_0 {
-        if s[at + 1] == OUI_1 {
-            if s[at + 2] == OUI_2 {
-                return Suite::Ours(s[at + 3]);
-            }
-        }
+    if s[at] == OUI_0 && s[at + 1] == OUI_1 && s[at + 2] == OUI_2 {
+        Suite::Ours(s[at + 3])
+    } else {
+        Suite::Other
     }
-    Suite::Other
 }
 
 // Writes the suite of a type to the front of d.
@@ -40,8 +37,7 @@ pub fn put_suite(d: &mut [u8], kind: u8) -> usize
     requires { 4 ≤ length d.old }
     ensures { Wrote (suite_octets kind) result d.old d.new }
 {
-    let suite = [OUI_0, OUI_1, OUI_2, kind];
-    octets::copy_in(d, &suite)
+    octets::copy_in(d, &[OUI_0, OUI_1, OUI_2, kind])
 }
 
 // An AKM: its type, the octets of the MIC that goes with it, and whether it needs a PMK.
@@ -50,12 +46,6 @@ pub struct Akm {
     pub kind: u8,
     pub mic: usize,
     pub pmk: bool,
-}
-
-#[derive(Clone, Copy)]
-pub enum AkmEntry {
-    In(Akm),
-    NotInTable,
 }
 
 const AKMS: [Akm; 4] = [
@@ -90,29 +80,17 @@ pub fn longest_mic() -> usize
     LONGEST_MIC
 }
 
-pub fn akm_of(kind: u8) -> AkmEntry
+pub fn akm_of(kind: u8) -> Option<Akm>
     ensures { result ≡ akm_of kind }
 {
-    for i in 0..AKMS.len() {
-        let akm = AKMS[i];
-        if akm.kind == kind {
-            return AkmEntry::In(akm);
-        }
-    }
-    AkmEntry::NotInTable
+    AKMS.iter().find(|akm| akm.kind == kind).copied()
 }
 
 // Whether a MIC of n octets goes with an AKM of the table.
 pub fn is_mic_length(n: usize) -> bool
     ensures { result ≡ is_mic_length n }
 {
-    for i in 0..AKMS.len() {
-        let akm = AKMS[i];
-        if akm.mic == n {
-            return true;
-        }
-    }
-    false
+    AKMS.iter().any(|akm| akm.mic == n)
 }
 
 // The one cipher of group and group management traffic.
@@ -125,12 +103,6 @@ pub struct Cipher {
     pub flag: u8,
 }
 
-#[derive(Clone, Copy)]
-pub enum CipherEntry {
-    In(Cipher),
-    NotInTable,
-}
-
 const CIPHERS: [Cipher; 4] = [
     Cipher { kind: 4, flag: 1 },
     Cipher { kind: 8, flag: 2 },
@@ -138,16 +110,10 @@ const CIPHERS: [Cipher; 4] = [
     Cipher { kind: 10, flag: 8 },
 ];
 
-pub fn cipher_of(kind: u8) -> CipherEntry
+pub fn cipher_of(kind: u8) -> Option<Cipher>
     ensures { result ≡ cipher_of kind }
 {
-    for i in 0..CIPHERS.len() {
-        let cipher = CIPHERS[i];
-        if cipher.kind == kind {
-            return CipherEntry::In(cipher);
-        }
-    }
-    CipherEntry::NotInTable
+    CIPHERS.iter().find(|cipher| cipher.kind == kind).copied()
 }
 
 // How a public key may be written: its octets, and the first octets that it may have, from `lowest` to `highest`.
@@ -158,6 +124,17 @@ pub struct KeyForm {
     pub highest: u8,
 }
 
+impl KeyForm {
+    fn is_form_of(self, key: &[u8]) -> bool
+        ensures { result ≡ has_form key.now self }
+    {
+        key.len() == self.length
+            && key.len() != 0
+            && self.lowest <= key[0]
+            && key[0] <= self.highest
+    }
+}
+
 // A finite cyclic group, and the two forms of its public keys.
 #[derive(Clone, Copy)]
 pub struct Group {
@@ -166,10 +143,13 @@ pub struct Group {
     pub uncompressed: KeyForm,
 }
 
-#[derive(Clone, Copy)]
-pub enum GroupEntry {
-    In(Group),
-    NotInTable,
+impl Group {
+    // Whether a key's length and first octet are those of one of the group's forms.
+    pub fn is_key(self, key: &[u8]) -> bool
+        ensures { result ≡ is_key_of self key.now }
+    {
+        self.compressed.is_form_of(key) || self.uncompressed.is_form_of(key)
+    }
 }
 
 const GROUPS: [Group; 1] = [Group {
@@ -195,42 +175,8 @@ pub fn longest_key() -> usize
     LONGEST_KEY
 }
 
-pub fn group_of(number: u16) -> GroupEntry
+pub fn group_of(number: u16) -> Option<Group>
     ensures { result ≡ group_of number }
 {
-    for i in 0..GROUPS.len() {
-        let group = GROUPS[i];
-        if group.number == number {
-            return GroupEntry::In(group);
-        }
-    }
-    GroupEntry::NotInTable
-}
-
-fn has_form(key: &[u8], form: KeyForm) -> bool
-    ensures { result ≡ has_form key.now form }
-{
-    if key.len() != form.length {
-        return false;
-    }
-    if key.len() == 0 {
-        return false;
-    }
-    let first = key[0];
-    if first < form.lowest {
-        return false;
-    }
-    first <= form.highest
-}
-
-// Whether a key's length and first octet are those of one of the group's forms.
-pub fn is_key_of(group: Group, key: &[u8]) -> bool
-    ensures { result ≡ is_key_of group key.now }
-{
-    let compressed = group.compressed;
-    let uncompressed = group.uncompressed;
-    if has_form(key, compressed) {
-        return true;
-    }
-    has_form(key, uncompressed)
+    GROUPS.iter().find(|group| group.number == number).copied()
 }

@@ -1,19 +1,9 @@
-use Rattle.suites.specs.Tables.{akm_of}
-use Rattle.suites.proofs.Lookup.{searched_none, searched_more, searched_stops, searched_all}
+use Rattle.std.proofs.Common.{rules, tests, ◌∙◌, eqb}
+use Rattle.std.proofs.lemmas.Iterator.{YieldsList-from_slice}
+use Rattle.std.proofs.lemmas.Iterator.Search.{find_from_yields_List}
+use Rattle.suites.specs.Tables.{akms, akm_of}
 use Rattle.suites.proofs.akm_of.Goals as goal
-
-pub loop-i-init : goal.loop-i-init
-unfolding akm_of
-loop-i-init c = searched_none
-
-pub returns-then-akm-kind : goal.returns-then-akm-kind
-unfolding akm_of
-returns-then-akm-kind c = searched_stops c.loop-i.invariant _ _ _ c.loop-i-test.true c.if-akm-kind.true
-
-pub loop-i-preserved : goal.loop-i-preserved
-unfolding akm_of
-loop-i-preserved c = searched_more c.loop-i.invariant _ c.loop-i-test.true c.if-akm-kind.false
 
 pub returns : goal.returns
 unfolding akm_of
-returns c = searched_all c.loop-i.invariant _ _ c.loop-i-test.false
+returns c = c.copied.ensures ∙ find_from_yields_List (λ e. eqb e.kind c.args.kind) _ _ _ c.find.ensures.ran (YieldsList-from_slice akms cc) (λ x b q k. search (rules, tests))

@@ -1,19 +1,9 @@
-use Rattle.suites.specs.Tables.{cipher_of}
-use Rattle.suites.proofs.Lookup.{searched_none, searched_more, searched_stops, searched_all}
+use Rattle.std.proofs.Common.{rules, tests, ◌∙◌, eqb}
+use Rattle.std.proofs.lemmas.Iterator.{YieldsList-from_slice}
+use Rattle.std.proofs.lemmas.Iterator.Search.{find_from_yields_List}
+use Rattle.suites.specs.Tables.{ciphers, cipher_of}
 use Rattle.suites.proofs.cipher_of.Goals as goal
-
-pub loop-i-init : goal.loop-i-init
-unfolding cipher_of
-loop-i-init c = searched_none
-
-pub returns-then-cipher-kind : goal.returns-then-cipher-kind
-unfolding cipher_of
-returns-then-cipher-kind c = searched_stops c.loop-i.invariant _ _ _ c.loop-i-test.true c.if-cipher-kind.true
-
-pub loop-i-preserved : goal.loop-i-preserved
-unfolding cipher_of
-loop-i-preserved c = searched_more c.loop-i.invariant _ c.loop-i-test.true c.if-cipher-kind.false
 
 pub returns : goal.returns
 unfolding cipher_of
-returns c = searched_all c.loop-i.invariant _ _ c.loop-i-test.false
+returns c = c.copied.ensures ∙ find_from_yields_List (λ e. eqb e.kind c.args.kind) _ _ _ c.find.ensures.ran (YieldsList-from_slice ciphers cc) (λ x b q k. search (rules, tests))

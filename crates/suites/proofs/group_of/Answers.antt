@@ -1,19 +1,9 @@
-use Rattle.suites.specs.Tables.{group_of}
-use Rattle.suites.proofs.Lookup.{searched_none, searched_more, searched_stops, searched_all}
+use Rattle.std.proofs.Common.{rules, tests, ◌∙◌, eqb}
+use Rattle.std.proofs.lemmas.Iterator.{YieldsList-from_slice}
+use Rattle.std.proofs.lemmas.Iterator.Search.{find_from_yields_List}
+use Rattle.suites.specs.Tables.{groups, group_of}
 use Rattle.suites.proofs.group_of.Goals as goal
-
-pub loop-i-init : goal.loop-i-init
-unfolding group_of
-loop-i-init c = searched_none
-
-pub returns-then-group-number : goal.returns-then-group-number
-unfolding group_of
-returns-then-group-number c = searched_stops c.loop-i.invariant _ _ _ c.loop-i-test.true c.if-group-number.true
-
-pub loop-i-preserved : goal.loop-i-preserved
-unfolding group_of
-loop-i-preserved c = searched_more c.loop-i.invariant _ c.loop-i-test.true c.if-group-number.false
 
 pub returns : goal.returns
 unfolding group_of
-returns c = searched_all c.loop-i.invariant _ _ c.loop-i-test.false
+returns c = c.copied.ensures ∙ find_from_yields_List (λ e. eqb e.number c.args.number) _ _ _ c.find.ensures.ran (YieldsList-from_slice groups cc) (λ x b q k. search (rules, tests))

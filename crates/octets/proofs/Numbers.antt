@@ -1,8 +1,8 @@
 -- Laws of numbers in octets, each over the width.
 use mathlib.Core.Path.{◌≡◌, refl, sym, ap, ◌∙◌}
 use mathlib.Core.List.{List, [], ◌∷◌, ◌++◌}
-use Prim.Native.Nat.{ℕ, zero, suc, ◌+◌, ◌-◌, ◌*◌, ◌/◌, ◌%◌, ◌^◌, ◌<◌, ◌≤◌}
-use native.Mathlib.Nat.{pow-succ', pow-le-pow_right, add-zero}
+use Prim.Native.Nat.{ℕ, zero, suc, ◌+◌, ◌*◌, ◌/◌, ◌%◌, ◌^◌, ◌<◌, ◌≤◌}
+use native.Mathlib.Nat.{pow-succ', add-zero}
 use native.Mathlib.Numerals.{add-one}
 use native.Mathlib.Omega.{arith}
 use lib.ListN.{length, get_or, take, drop, get_or-append}
@@ -82,67 +82,3 @@ written_so (suc w) s at small h =
     let high : n / 256 ≡ le w s (at + 1) = omega (arith, small at) in
     let next : at + 1 + w ≡ at + suc w = omega arith in
     drop-cons s at 0 (omega arith) ∙ rw (low, high, ← add-one at, written_so w s (at + 1) small (omega arith), next)
-
--- A loop that reads from the highest octet down: the number at one place lower.
-pub le_lower : (s : List ℕ) (at w left : ℕ) → 0 < left → left ≤ w
-    → le (w - (left - 1)) s (at + (left - 1)) ≡ get_or s (at + (left - 1)) 0 + 256 * le (w - left) s (at + left)
-unfolding le
-le_lower s at w left h k =
-    let e : w - (left - 1) ≡ suc (w - left) = omega arith in
-    let f : at + (left - 1) + 1 ≡ at + left = omega arith in
-    rw (e, f)
-
--- what is left of a number above its lowest i octets
-unfoldable pub above : ℕ → ℕ → ℕ
-above zero n = n
-above (suc i) n = above i (n / 256)
-
-pub above_more : (i n : ℕ) → above (i + 1) n ≡ above i n / 256
-unfolding above
-above_more i n = ap (λ (k : ℕ). above k n) (add-one i) ∙ go i n
-  where
-    go : (i n : ℕ) → above i (n / 256) ≡ above i n / 256
-    go zero n = refl
-    go (suc i) n = go i (n / 256)
-
--- one octet more
-pub octets_more : (i n : ℕ) → octets (i + 1) n ≡ octets i n ++ (above i n % 256 ∷ [])
-unfolding above octets
-octets_more i n = ap (λ (k : ℕ). octets k n) (add-one i) ∙ go i n
-  where
-    go : (i n : ℕ) → n % 256 ∷ octets i (n / 256) ≡ octets i n ++ (above i n % 256 ∷ [])
-    go zero n = refl
-    go (suc i) n = ap (λ (l : List ℕ). n % 256 ∷ l) (go i (n / 256))
-
--- A loop that reads w octets from the highest down, with `left` of them still to read.
-pub record Reading (s : List ℕ) (at w n left : ℕ) : Type 0 where
-  pub within : left ≤ w
-  pub value : n ≡ le (w - left) s (at + left)
-  pub bound : n < 256 ^ (w - left)
-
-pub reading_none : (s : List ℕ) (at w : ℕ) → Reading s at w 0 w
-unfolding le
-reading_none s at w =
-    let e : w - w ≡ 0 = omega arith in
-    record { within = omega arith; value = rw e; bound = rw e (omega arith) }
-
-module _ {s : List ℕ} {at w n left : ℕ} (g : Reading s at w n left) (h : 0 < left) where
-  -- there is room for one octet more, where there are at most eight
-  pub reading_room : w ≤ 8 → n * 256 + 255 < 2 ^ 64
-  reading_room e = omega (arith, g.bound, pow-le-pow_right {n = 256} (omega arith) {i = w - left} {j = 7} (omega (arith, g.within)))
-
-  pub reading_more : get_or s (at + (left - 1)) 0 < 256 → Reading s at w (n * 256 + get_or s (at + (left - 1)) 0) (left - 1)
-  reading_more b =
-      let e : w - (left - 1) ≡ suc (w - left) = omega (arith, g.within) in
-      record {
-        within = omega (arith, g.within);
-        value = omega (arith, g.value, le_lower s at w left h g.within);
-        bound = rw (e, pow-succ' 256 (w - left)) (omega (arith, g.bound));
-      }
-
-pub reading_done : {s : List ℕ} {at w n left : ℕ} → Reading s at w n left → left ≤ 0 → (n ≡ le w s at) × (n < 256 ^ w)
-reading_done {s} {at} {w} {n} {left} g h =
-    let e : left ≡ 0 = omega arith in
-    let f : w - left ≡ w = omega arith in
-    let k : at + left ≡ at = omega arith in
-    (g.value ∙ rw (f, k), rw f at g.bound)

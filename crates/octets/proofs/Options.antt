@@ -1,5 +1,5 @@
 -- The variants of an `Option`, told apart.
-use Rattle.std.specs.Prelude.{◌≡◌, Option, Some, None}
+use Rattle.std.specs.Prelude.{◌≡◌, Some, None}
 
 pub some-injective : {A : Type 0} (x y : A) → Some x ≡ Some y → x ≡ y
 some-injective x y e = cc

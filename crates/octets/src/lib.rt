@@ -3,97 +3,81 @@
 // A writer is lent the part that begins where its octets go, and tells how many it wrote (`Wrote`).
 #![tactic(auto)]
 
-ghost use Rattle.std.specs.Prelude.{◌≡◌, ◌+◌, ◌^◌, ◌≤◌, ◌<◌, length, replicate};
+ghost use Rattle.std.specs.Prelude.{◌≡◌, ℕ, ◌+◌, ◌≤◌, length, replicate};
 ghost use Rattle.octets.specs.Numbers.{le, octets};
 ghost use Rattle.octets.specs.Equality.{same_octets};
 ghost use Rattle.octets.specs.Wrote.{Wrote};
 
-// The number in `width` octets of s from `at` on.
-fn le(s: &[u8], at: usize, width: usize) -> u64
-    requires { (width ≤ 8) × (at + width ≤ length s.now) }
-    ensures { (result ≡ le width s.now at) × (result < 256 ^ width) }
-{
-    let mut n: u64 = 0;
-    let mut left = width;
-    while left > 0 {
-        left -= 1;
-        n = n * 256 + s[at + left] as u64;
+// A number that stands in octets, as many as its type has.
+pub trait Number {
+    ghost width: { ℕ };
+
+    ghost value: { Self → ℕ };
+
+    // The number in the octets of s from `at` on.
+    fn read_le(s: &[u8], at: usize) -> Self
+        requires { at + width ≤ length s.now }
+        ensures { value result ≡ le width s.now at };
+
+    // Its octets at the front of d.
+    fn put_le(self, d: &mut [u8]) -> usize
+        requires { width ≤ length d.old }
+        ensures { Wrote (octets width (value self)) result d.old d.new };
+}
+
+impl Number for u16 {
+    ghost width = { 2 };
+
+    ghost value = { λ n. n };
+
+    #[tactic(auto, unfolding(crate::specs::Numbers::le))]
+    fn read_le(s: &[u8], at: usize) -> u16 {
+        u16::from_le_bytes([s[at], s[at + 1]])
     }
-    n
-}
 
-pub fn le2(s: &[u8], at: usize) -> u16
-    requires { at + 2 ≤ length s.now }
-    ensures { result ≡ le 2 s.now at }
-{
-    le(s, at, 2) as u16
-}
-
-pub fn le4(s: &[u8], at: usize) -> u32
-    requires { at + 4 ≤ length s.now }
-    ensures { result ≡ le 4 s.now at }
-{
-    le(s, at, 4) as u32
-}
-
-pub fn le8(s: &[u8], at: usize) -> u64
-    requires { at + 8 ≤ length s.now }
-    ensures { result ≡ le 8 s.now at }
-{
-    le(s, at, 8)
-}
-
-// The lowest `width` octets of n at the front of d.
-fn put_le(d: &mut [u8], n: u64, width: usize) -> usize
-    requires { width ≤ length d.old }
-    ensures { Wrote (octets width n) result d.old d.new }
-{
-    let mut rest = n;
-    let mut i = 0;
-    while i < width {
-        d[i] = (rest % 256) as u8;
-        rest /= 256;
-        i += 1;
+    #[tactic(auto, unfolding(crate::specs::Numbers::octets))]
+    fn put_le(self, d: &mut [u8]) -> usize {
+        copy_in(d, &u16::to_le_bytes(self))
     }
-    width
 }
 
-pub fn put_le2(d: &mut [u8], n: u16) -> usize
-    requires { 2 ≤ length d.old }
-    ensures { Wrote (octets 2 n) result d.old d.new }
-{
-    put_le(d, n as u64, 2)
+impl Number for u32 {
+    ghost width = { 4 };
+
+    ghost value = { λ n. n };
+
+    #[tactic(auto, unfolding(crate::specs::Numbers::le))]
+    fn read_le(s: &[u8], at: usize) -> u32 {
+        u32::from_le_bytes(s[at..at + 4].try_into().unwrap())
+    }
+
+    #[tactic(auto, unfolding(crate::specs::Numbers::octets))]
+    fn put_le(self, d: &mut [u8]) -> usize {
+        copy_in(d, &u32::to_le_bytes(self))
+    }
 }
 
-pub fn put_le4(d: &mut [u8], n: u32) -> usize
-    requires { 4 ≤ length d.old }
-    ensures { Wrote (octets 4 n) result d.old d.new }
-{
-    put_le(d, n as u64, 4)
+impl Number for u64 {
+    ghost width = { 8 };
+
+    ghost value = { λ n. n };
+
+    #[tactic(auto, unfolding(crate::specs::Numbers::le))]
+    fn read_le(s: &[u8], at: usize) -> u64 {
+        u64::from_le_bytes(s[at..at + 8].try_into().unwrap())
+    }
+
+    #[tactic(auto, unfolding(crate::specs::Numbers::octets))]
+    fn put_le(self, d: &mut [u8]) -> usize {
+        copy_in(d, &u64::to_le_bytes(self))
+    }
 }
 
-pub fn put_le8(d: &mut [u8], n: u64) -> usize
-    requires { 8 ≤ length d.old }
-    ensures { Wrote (octets 8 n) result d.old d.new }
-{
-    put_le(d, n, 8)
-}
-
-// Whether a and b, of any lengths, are the same octets. It looks at the last one first: addresses of one maker begin alike.
+// Whether a and b, of any lengths, are the same octets.
 pub fn same(a: &[u8], b: &[u8]) -> bool
     ensures { result ≡ same_octets a.now b.now }
 {
-    if a.len() != b.len() {
-        return false;
-    }
-    let mut i = a.len();
-    while i > 0 {
-        i -= 1;
-        if a[i] != b[i] {
-            return false;
-        }
-    }
-    true
+    a == b
 }
 
 // Copies src to the front of d.
@@ -101,11 +85,7 @@ pub fn copy_in(d: &mut [u8], src: &[u8]) -> usize
     requires { length src.now ≤ length d.old }
     ensures { Wrote src.now result d.old d.new }
 {
-    let mut i = 0;
-    while i < src.len() {
-        d[i] = src[i];
-        i += 1;
-    }
+    d[..src.len()].copy_from_slice(src);
     src.len()
 }
 
@@ -114,10 +94,6 @@ pub fn zero(d: &mut [u8], n: usize) -> usize
     requires { n ≤ length d.old }
     ensures { Wrote (replicate n 0) result d.old d.new }
 {
-    let mut i = 0;
-    while i < n {
-        d[i] = 0;
-        i += 1;
-    }
+    d[..n].fill(0);
     n
 }

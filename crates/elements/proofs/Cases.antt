@@ -3,9 +3,8 @@ use mathlib.Core.Path.{◌≡◌, refl}
 use mathlib.Core.List.{List, [], ◌∷◌, ◌++◌}
 use Prim.Native.Nat.{ℕ}
 use lib.ListN.{replicate}
+use Rattle.std.specs.Prelude.{Some, None}
 use Rattle.octets.specs.Numbers.{le}
-use Rattle.elements.specs.declared.Extension.TheVariants.{Id, Absent}
-use Rattle.elements.specs.declared.Opened.TheVariants.{Body, NoBody}
 use Rattle.elements.specs.Body.{body_of}
 use Rattle.elements.specs.Walk.{walked, failed_at, walk_body}
 
@@ -16,22 +15,22 @@ header = 7 ∷ 0 ∷ 3 ∷ 0 ∷ 0 ∷ 0 ∷ []
 abbrev listed : List ℕ
 listed = header ++ (0xff ∷ 3 ∷ 0x64 ∷ 0 ∷ 0 ∷ 0x8c ∷ 0x10 ∷ replicate 16 0xaa)
 
-pub opened : body_of listed ≡ Body (record { algorithm = 7; transaction = 3; status = 0 })
+pub opened : body_of listed ≡ Some (record { algorithm = 7; transaction = 3; status = 0 })
 unfolding body_of le
 opened = refl
 
-pub too_short : body_of (replicate 5 0) ≡ NoBody
+pub too_short : body_of (replicate 5 0) ≡ None
 unfolding body_of
 too_short = refl
 
-pub too_long : body_of (replicate 1025 0) ≡ NoBody
+pub too_long : body_of (replicate 1025 0) ≡ None
 unfolding body_of
 too_long = refl
 
 pub two_elements : walk_body listed
     ≡ walked
-    (record { id = 255; extension = Id 100; place = 6; start = 8; length = 3; next = 11 }
-    ∷ record { id = 140; extension = Absent; place = 11; start = 13; length = 16; next = 29 }
+    (record { id = 255; extension = Some 100; place = 6; start = 8; length = 3; next = 11 }
+    ∷ record { id = 140; extension = None; place = 11; start = 13; length = 16; next = 29 }
     ∷ [])
 unfolding walk_body
 two_elements = refl

@@ -7,9 +7,7 @@ use native.Mathlib.Omega.{arith}
 use borrow.Author.Tests.{leb-true, leb-false, le-leb, lt-leb, le-ltb, eqb-true, eqb-false, ne_eqb, ltb-false}
 use lib.Dec.{ltb, leb, eqb}
 use lib.ListN.{length, get_or, length-append, get_or-append}
-use Rattle.std.specs.Prelude.{if◌then◌else◌}
-use Rattle.elements.specs.declared.Extension.{Extension}
-use Rattle.elements.specs.declared.Extension.TheVariants.{Id, Absent}
+use Rattle.std.specs.Prelude.{Option, Some, None, if◌then◌else◌}
 use Rattle.elements.specs.declared.Element.{Element}
 use Rattle.elements.specs.declared.Met.TheVariants.{Stands, End, Failed}
 use Rattle.elements.specs.Met.{element_at, met_at}
@@ -107,11 +105,11 @@ pub element_same : (s t : List ℕ) (at : ℕ) → get_or s at 0 ≡ get_or t at
     → (get_or t at 0 ≡ 255 → get_or s (at + 2) 0 ≡ get_or t (at + 2) 0) → element_at s at ≡ element_at t at
 element_same s t at i n x = rw (i, n) (go (eqb (get_or t at 0) 255) refl)
   where
-    by : Extension → Element
+    by : Option ℕ → Element
     by x = record { id = get_or t at 0; extension = x; place = at; start = at + 2; length = get_or t (at + 1) 0; next = at + 2 + get_or t (at + 1) 0 }
 
-    go : (b : Bool) → eqb (get_or t at 0) 255 ≡ b → by (if b then Id (get_or s (at + 2) 0) else Absent) ≡ by (if b then Id (get_or t (at + 2) 0) else Absent)
-    go true p = ap (λ (k : ℕ). by (Id k)) (x (eqb-true (get_or t at 0) 255 p))
+    go : (b : Bool) → eqb (get_or t at 0) 255 ≡ b → by (if b then Some (get_or s (at + 2) 0) else None) ≡ by (if b then Some (get_or t (at + 2) 0) else None)
+    go true p = ap (λ (k : ℕ). by (Some k)) (x (eqb-true (get_or t at 0) 255 p))
     go false p = refl
 
 -- an element within a is one within a ++ b

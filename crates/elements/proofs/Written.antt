@@ -6,8 +6,7 @@ use native.Mathlib.Omega.{arith}
 use lib.Dec.{eqb}
 use lib.ListN.{length, get_or, length-append}
 use lib.Seq.{get_or-append_seam, get_or-append-add}
-use Rattle.std.specs.Prelude.{if◌then◌else◌}
-use Rattle.elements.specs.declared.Extension.TheVariants.{Id, Absent}
+use Rattle.std.specs.Prelude.{Some, None, if◌then◌else◌}
 use Rattle.elements.specs.declared.Element.{Element}
 use Rattle.elements.specs.declared.Part.{Part}
 use Rattle.elements.specs.declared.Met.TheVariants.{Stands}
@@ -20,7 +19,7 @@ use Rattle.elements.proofs.Walk.{walk_stands, walk_ends, walk_append}
 abbrev pub element : ℕ → List ℕ → ℕ → Part → Element
 element id content place p = record {
   id = id;
-  extension = if eqb id 255 then Id (get_or content 0 0) else Absent;
+  extension = if eqb id 255 then Some (get_or content 0 0) else None;
   place = place;
   start = p.start;
   length = length content;

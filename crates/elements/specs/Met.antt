@@ -1,6 +1,5 @@
 -- An element: ID, length, content. For ID 255 the content's first octet is the extension ID.
-use Rattle.std.specs.Prelude.{ℕ, ◌+◌, ◌-◌, ◌&&◌, List, ltb, leb, eqb, length, get_or, if◌then◌else◌}
-use Rattle.elements.specs.declared.Extension.TheVariants.{Id, Absent}
+use Rattle.std.specs.Prelude.{ℕ, ◌+◌, ◌-◌, ◌&&◌, List, Some, None, ltb, leb, eqb, length, get_or, if◌then◌else◌}
 use Rattle.elements.specs.declared.Element.{Element}
 use Rattle.elements.specs.declared.Met.{Met}
 use Rattle.elements.specs.declared.Met.TheVariants.{Stands, End, Failed}
@@ -9,7 +8,7 @@ use Rattle.elements.specs.declared.Met.TheVariants.{Stands, End, Failed}
 abbrev pub element_at : List ℕ → ℕ → Element
 element_at s at = record {
   id = get_or s at 0;
-  extension = if eqb (get_or s at 0) 255 then Id (get_or s (at + 2) 0) else Absent;
+  extension = if eqb (get_or s at 0) 255 then Some (get_or s (at + 2) 0) else None;
   place = at;
   start = at + 2;
   length = get_or s (at + 1) 0;

@@ -1,9 +1,12 @@
 // The body of an Authentication frame: six octets, then elements.
 #![tactic(auto)]
 
-ghost use Rattle.std.specs.Prelude.{◌≡◌};
+ghost use Rattle.std.specs.Prelude.{◌≡◌, length};
 ghost use Rattle.elements.specs.Body.{body_of};
+ghost use Rattle.elements.specs.Lies.{Lies, content, part_of};
 ghost use Rattle.elements.specs.Met.{met_at};
+
+use octets::Number;
 
 // The octets in front of a body's elements.
 pub const HEADER: usize = 6;
@@ -20,45 +23,62 @@ pub struct Header {
     pub status: u16,
 }
 
-// What a string of octets is by its length: a body, or none.
-#[derive(Clone, Copy)]
-pub enum Opened {
-    Body(Header),
-    NoBody,
-}
-
-pub fn open_body(s: &[u8]) -> Opened
+// The header of a string of octets that is a body by its length.
+#[tactic(auto, unfolding(crate::specs::Body::body_of))]
+pub fn open_body(s: &[u8]) -> Option<Header>
     ensures { result ≡ body_of s.now }
 {
     if s.len() < HEADER {
-        return Opened::NoBody;
+        return None;
     }
     if LONGEST_BODY < s.len() {
-        return Opened::NoBody;
+        return None;
     }
-    Opened::Body(Header {
-        algorithm: octets::le2(s, 0),
-        transaction: octets::le2(s, 2),
-        status: octets::le2(s, 4),
+    Some(Header {
+        algorithm: u16::read_le(s, 0),
+        transaction: u16::read_le(s, 2),
+        status: u16::read_le(s, 4),
     })
 }
 
-// The extension ID, which only an element of ID 255 has.
+// The part of a body from `start` up to `end`.
 #[derive(Clone, Copy)]
-pub enum Extension {
-    Id(u8),
-    Absent,
+pub struct Part {
+    pub start: usize,
+    pub end: usize,
 }
 
-// An element: the place of its ID, where its content starts and how long that is, and the place after it.
+impl Part {
+    // Its octets.
+    pub fn of<'a>(self, s: &'a [u8]) -> &'a [u8]
+        requires { Lies 0 (length s.now) self }
+        ensures { result.now ≡ content s.now self }
+    {
+        &s[self.start..self.end]
+    }
+}
+
+// An element: the place of its ID, its extension ID where its ID is 255, where its content starts and how long that is, and the place after it.
 #[derive(Clone, Copy)]
 pub struct Element {
     pub id: u8,
-    pub extension: Extension,
+    pub extension: Option<u8>,
     pub place: usize,
     pub start: usize,
     pub length: usize,
     pub next: usize,
+}
+
+impl Element {
+    // The part of the body that its content occupies.
+    pub fn content(self) -> Part
+        ensures { result ≡ part_of self }
+    {
+        Part {
+            start: self.start,
+            end: self.next,
+        }
+    }
 }
 
 // What the walk meets at a place.
@@ -84,25 +104,19 @@ fn met_in(s: &[u8], at: usize) -> Met
     if s.len() - start < length {
         return Met::Failed;
     }
-    if id != 255 {
-        return Met::Stands(Element {
-            id: id,
-            extension: Extension::Absent,
-            place: at,
-            start: start,
-            length: length,
-            next: start + length,
-        });
-    }
-    if length == 0 {
-        return Met::Failed;
+    let mut extension = None;
+    if id == 255 {
+        if length == 0 {
+            return Met::Failed;
+        }
+        extension = Some(s[start]);
     }
     Met::Stands(Element {
-        id: id,
-        extension: Extension::Id(s[start]),
+        id,
+        extension,
         place: at,
-        start: start,
-        length: length,
+        start,
+        length,
         next: start + length,
     })
 }
@@ -134,11 +148,4 @@ pub fn met_at(body: &[u8], at: usize) -> Met
     ensures { result ≡ met_at body.now at }
 {
     Reader::at(body, at).met()
-}
-
-// The part of a body from `start` up to `end`.
-#[derive(Clone, Copy)]
-pub struct Part {
-    pub start: usize,
-    pub end: usize,
 }

@@ -1,30 +1,34 @@
-// Seconds and TU, the two units of time. Only `in_tu` leads from one to the other, and nothing leads back.
+// Seconds and TU, the two units of time. Only `Tu::from` leads from one to the other, and nothing leads back.
 #![tactic(auto)]
 
 ghost use Rattle.std.specs.Prelude.{◌≡◌};
 ghost use Rattle.units.specs.Units.{in_tu, in_clock};
 
 // Key lifetimes.
-#[derive(Clone, Copy)]
+#[derive(Clone, Copy, PartialEq, Eq, PartialOrd, Ord)]
 pub struct Seconds(pub u32);
 
 // Deadlines, ends and clock readings: 1,024 microseconds each.
-#[derive(Clone, Copy)]
+#[derive(Clone, Copy, PartialEq, Eq, PartialOrd, Ord)]
 pub struct Tu(pub u64);
 
 // The highest clock reading, 2^48.
 pub const CLOCK_LIMIT: Tu = Tu(0x1_0000_0000_0000);
 
 // So many seconds in TU, rounded down.
-pub fn in_tu(s: Seconds) -> Tu
-    ensures { result ≡ in_tu s }
-{
-    Tu(s.0 as u64 * 15625 / 16)
+impl From<Seconds> for Tu {
+    ghost from_gives = { λ s t. t ≡ in_tu s };
+
+    fn from(s: Seconds) -> Tu {
+        Tu(s.0 as u64 * 15625 / 16)
+    }
 }
 
-// Whether a clock can read t.
-pub fn in_clock(t: Tu) -> bool
-    ensures { result ≡ in_clock t }
-{
-    t.0 <= CLOCK_LIMIT.0
+impl Tu {
+    // Whether a clock can read this.
+    pub fn in_clock(self) -> bool
+        ensures { result ≡ in_clock self }
+    {
+        self <= CLOCK_LIMIT
+    }
 }

@@ -5,29 +5,28 @@ use mathlib.Core.List.{List, [], ◌∷◌}
 use mathlib.Core.Logic.{◌⊎◌, inl, inr, ⊎_elim}
 use Prim.Native.Nat.{ℕ, ◌+◌, ◌<◌, ◌≤◌}
 use native.Mathlib.Omega.{arith}
-use borrow.Author.Tests.{eqb-true, eq-eqb}
+use borrow.Author.Tests.{eq-eqb}
 use lib.Dec.{ltb, eqb}
 use lib.ListN.{length, get_or}
-use Rattle.std.specs.Prelude.{if◌then◌else◌}
+use Rattle.std.specs.Prelude.{Option, Some, Result, Ok, Err, if◌then◌else◌}
 use Rattle.octets.specs.Numbers.{le}
 use Rattle.octets.proofs.Numbers.{le_ext}
-use Rattle.elements.specs.declared.Extension.{Extension}
-use Rattle.elements.specs.declared.Extension.TheVariants.{Id}
 use Rattle.elements.specs.declared.Element.{Element}
 use Rattle.elements.specs.declared.Met.TheVariants.{Stands, End, Failed}
-use Rattle.scan.specs.declared.Kind.{Kind}
 use Rattle.scan.specs.declared.Kind.TheVariants.{Mic, Parameters, Wrapped, Skipped}
 use Rattle.elements.specs.declared.Part.{Part}
 use Rattle.scan.specs.declared.Times.{Times}
-use Rattle.scan.specs.declared.Times.TheVariants.{None, One, More}
+use Rattle.scan.specs.declared.Times.TheVariants.{Never, One, More}
 use Rattle.scan.specs.declared.Places.{Places}
-use Rattle.scan.specs.declared.Scan.{Scan}
+use Rattle.scan.specs.declared.FailedAt.{FailedAt}
 use Rattle.elements.specs.Body.{body_of}
+use Rattle.elements.specs.Lies.{part_of}
 use Rattle.elements.specs.Met.{met_at}
 use Rattle.elements.specs.Walk.{Walk, walked, failed_at, ◌then◌, walk, walk_body}
-use Rattle.scan.specs.Scan.{extended_kind, kind_by, kind_of, kind_number, is_kind, of_kind, part_of, times_of, places_of, scan_by, scan_of}
+use Rattle.scan.specs.Scan.{extended_kind, kind_by, kind_of, is_kind, of_kind, times_of, places_of, scan_by, scan_of}
 use Rattle.elements.proofs.Standing.{Stood, stood, element_same}
 use Rattle.elements.proofs.Walk.{walk_stands, walk_ends, walk_fails, walk_induction, Each, EachOf, each_stood}
+use Rattle.scan.proofs.Scanning.{same_kind}
 
 -- Two strings, as long as each other, that differ at most in a part.
 pub record SameBut (p : Part) (s t : List ℕ) : Type 0 where
@@ -42,12 +41,12 @@ pub record Inside (p : Part) (e : Element) : Type 0 where
   pub extended : e.id ≡ 255 → e.start < p.start
 
 -- something of one of some elements, and of one of a walk that comes to its end
-abbrev pub Some : (Element → Type 0) → List Element → Type 0
-Some P [] = ⊥
-Some P (e ∷ es) = P e ⊎ Some P es
+abbrev pub SomeIn : (Element → Type 0) → List Element → Type 0
+SomeIn P [] = ⊥
+SomeIn P (e ∷ es) = P e ⊎ SomeIn P es
 
 abbrev pub SomeOf : (Element → Type 0) → Walk → Type 0
-SomeOf P (walked es) = Some P es
+SomeOf P (walked es) = SomeIn P es
 SomeOf P (failed_at place) = ⊥
 
 abbrev pub SameFrom : ℕ → List ℕ → List ℕ → Type 0
@@ -141,59 +140,59 @@ same_read p s t b h = read (body (ltb (length s) 6) (ltb 1024 (length s)) h)
 
 -- the part of which is told lies inside an element
 abbrev pub InsideIf : Walk → Times → Type 0
-InsideIf w None = Unit {0}
+InsideIf w Never = Unit {0}
 InsideIf w (One p) = SomeOf (Inside p) w
 InsideIf w (More p) = SomeOf (Inside p) w
 
-extended_number : (x : ℕ) → 4 ≤ kind_number (extended_kind x)
-extended_number x = go (eqb x 100) (eqb x 8)
+-- no extended element is a MIC
+extended_no_mic : (x : ℕ) → extended_kind x ≡ Mic → ⊥
+extended_no_mic x = go (eqb x 100) (eqb x 8)
   where
-    go : (a b : Bool) → 4 ≤ kind_number (if a then Parameters else (if b then Wrapped else Skipped))
-    go true b = omega arith
-    go false true = omega arith
-    go false false = omega arith
+    go : (a b : Bool) → (if a then Parameters else (if b then Wrapped else Skipped)) ≡ Mic → ⊥
+    go true b e = cc
+    go false true e = cc
+    go false false e = cc
 
-plain : (s : List ℕ) (e : Element) → Stood s e.place e → kind_number (kind_of e) < 4 → e.id ≡ 255 → ⊥
-plain s e st n h =
+plain_mic : (s : List ℕ) (e : Element) → Stood s e.place e → kind_of e ≡ Mic → e.id ≡ 255 → ⊥
+plain_mic s e st k h =
     let i : get_or s e.place 0 ≡ 255 = sym (ap (λ (e : Element). e.id) st.is) ∙ h in
-    let x : e.extension ≡ Id (get_or s (e.place + 2) 0) = ap (λ (e : Element). e.extension) st.is ∙ rw (eq-eqb (get_or s e.place 0) 255 i) in
-    omega (arith, ap (λ (x : Extension). kind_number (kind_by e.id x)) x, extended_number (get_or s (e.place + 2) 0))
+    let x : e.extension ≡ Some (get_or s (e.place + 2) 0) = ap (λ (e : Element). e.extension) st.is ∙ rw (eq-eqb (get_or s e.place 0) 255 i) in
+    extended_no_mic (get_or s (e.place + 2) 0) (sym (ap (λ (x : Option ℕ). kind_by e.id x) x) ∙ k)
 
-times_inside : (s : List ℕ) (k : Kind) → kind_number k < 4 → (es : List Element) → Each (λ e. Stood s e.place e) es
-    → InsideIf (walked es) (times_of (of_kind k es))
-times_inside s k n [] h = tt
-times_inside s k n (e ∷ es) h = go (is_kind (kind_of e) k) refl (times_inside s k n es h.1)
+mics_inside : (s : List ℕ) (es : List Element) → Each (λ e. Stood s e.place e) es → InsideIf (walked es) (times_of (of_kind Mic es))
+mics_inside s [] h = tt
+mics_inside s (e ∷ es) h = go (is_kind (kind_of e) Mic) refl (mics_inside s es h.1)
   where
     first : (ds : List Element) → Inside (part_of e) e → InsideIf (walked (e ∷ es)) (times_of (e ∷ ds))
     first [] i = inl i
     first (d ∷ ds) i = inl i
 
     later : (t : Times) → InsideIf (walked es) t → InsideIf (walked (e ∷ es)) t
-    later None i = tt
+    later Never i = tt
     later (One p) i = inr i
     later (More p) i = inr i
 
-    go : (b : Bool) → is_kind (kind_of e) k ≡ b → InsideIf (walked es) (times_of (of_kind k es))
-        → InsideIf (walked (e ∷ es)) (times_of (if b then e ∷ of_kind k es else of_kind k es))
+    go : (b : Bool) → is_kind (kind_of e) Mic ≡ b → InsideIf (walked es) (times_of (of_kind Mic es))
+        → InsideIf (walked (e ∷ es)) (times_of (if b then e ∷ of_kind Mic es else of_kind Mic es))
     go true q i =
-        first (of_kind k es) (record {
+        first (of_kind Mic es) (record {
           start = omega arith;
           next = omega arith;
-          extended = λ x. absurd (plain s e h.0 (omega (arith, eqb-true (kind_number (kind_of e)) (kind_number k) q)) x);
+          extended = λ x. absurd (plain_mic s e h.0 (same_kind (kind_of e) Mic q) x);
         })
-    go false q i = later (times_of (of_kind k es)) i
+    go false q i = later (times_of (of_kind Mic es)) i
 
-abbrev MicInside : Walk → Scan → Type 0
-MicInside w (Scan.Walked p) = InsideIf w p.mic
-MicInside w (Scan.Failed place) = Unit {0}
+abbrev MicInside : Walk → Result Places FailedAt → Type 0
+MicInside w (Ok p) = InsideIf w p.mic
+MicInside w (Err place) = Unit {0}
 
 -- A MIC that the scan finds is the content of an element of the walk.
-pub mic_inside : (s : List ℕ) (p : Places) → scan_of s ≡ Scan.Walked p → InsideIf (walk_body s) p.mic
+pub mic_inside : (s : List ℕ) (p : Places) → scan_of s ≡ Ok p → InsideIf (walk_body s) p.mic
 unfolding scan_of walk_body places_of
 mic_inside s p q = subst (MicInside (walk_body s)) q (go (ltb (length s) 6) (ltb 1024 (length s)) (walk s 6) (each_stood s 6))
   where
     found : (w : Walk) → EachOf (λ e. Stood s e.place e) w → MicInside w (scan_by w)
-    found (walked es) h = times_inside s Mic (omega arith) es h
+    found (walked es) h = mics_inside s es h
     found (failed_at place) h = tt
 
     go : (a b : Bool) (w : Walk) → EachOf (λ e. Stood s e.place e) w

@@ -1,3 +1,4 @@
 pub mod Scan
+pub mod Times
 pub mod Noting
 pub mod Within

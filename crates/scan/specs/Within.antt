@@ -2,17 +2,17 @@
 use Rattle.std.specs.Prelude.{ℕ, ◌≤◌}
 use Rattle.elements.specs.Lies.{Lies}
 use Rattle.scan.specs.declared.Times.{Times}
-use Rattle.scan.specs.declared.Times.TheVariants.{None, One, More}
+use Rattle.scan.specs.declared.Times.TheVariants.{Never, One, More}
 use Rattle.scan.specs.declared.Places.{Places}
 
 abbrev pub LiesIf : ℕ → ℕ → Times → Type 0
-LiesIf least n None = Unit {0}
+LiesIf least n Never = Unit {0}
 LiesIf least n (One p) = Lies least n p
 LiesIf least n (More p) = Lies least n p
 
 -- a part that ends no earlier than it starts
 abbrev pub Ordered : Times → Type 0
-Ordered None = Unit {0}
+Ordered Never = Unit {0}
 Ordered (One p) = p.start ≤ p.end
 Ordered (More p) = p.start ≤ p.end
 

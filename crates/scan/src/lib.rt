@@ -3,11 +3,10 @@
 
 ghost use Rattle.std.specs.Prelude.{◌≡◌};
 ghost use Rattle.elements.specs.Walk.{walk};
-ghost use Rattle.scan.specs.Scan.{kind_of, kind_number, plain_kind, extended_kind, scan_by, scan_of};
-ghost use Rattle.scan.specs.declared.Times.TheVariants.{More};
-ghost use Rattle.scan.specs.Noting.{seen_of, mark_of};
+ghost use Rattle.scan.specs.Scan.{kind_of, plain_kind, extended_kind, scan_by, scan_of};
+ghost use Rattle.scan.specs.Noting.{seen_of};
 
-use elements::{Element, Extension, HEADER, LONGEST_BODY, Met, Part};
+use elements::{Element, HEADER, LONGEST_BODY, Met, Part};
 
 // The elements that the rules speak of; all others are skipped.
 #[derive(Clone, Copy)]
@@ -24,49 +23,85 @@ pub enum Kind {
 fn plain_kind(id: u8) -> Kind
     ensures { result ≡ plain_kind id }
 {
-    if id == 48 {
-        return Kind::Rsne;
+    match id {
+        48 => Kind::Rsne,
+        56 => Kind::Timeout,
+        140 => Kind::Mic,
+        242 => Kind::Fragment,
+        _ => Kind::Skipped,
     }
-    if id == 56 {
-        return Kind::Timeout;
-    }
-    if id == 140 {
-        return Kind::Mic;
-    }
-    if id == 242 {
-        return Kind::Fragment;
-    }
-    Kind::Skipped
 }
 
 fn extended_kind(extension: u8) -> Kind
     ensures { result ≡ extended_kind extension }
 {
-    if extension == 100 {
-        return Kind::Parameters;
+    match extension {
+        100 => Kind::Parameters,
+        8 => Kind::Wrapped,
+        _ => Kind::Skipped,
     }
-    if extension == 8 {
-        return Kind::Wrapped;
-    }
-    Kind::Skipped
 }
 
 fn kind_of(e: Element) -> Kind
     ensures { result ≡ kind_of e }
 {
-    let extension = e.extension;
-    match extension {
-        Extension::Id(x) => extended_kind(x),
-        Extension::Absent => plain_kind(e.id),
+    match e.extension {
+        Some(extension) => extended_kind(extension),
+        None => plain_kind(e.id),
     }
 }
 
 // How many elements of a kind there are, and the content of the first.
 #[derive(Clone, Copy)]
 pub enum Times {
-    None,
+    Never,
     One(Part),
     More(Part),
+}
+
+impl Times {
+    ghost use Rattle.scan.specs.Times.{once, at_most_once, is_never};
+
+    // The content of an element that is there exactly once.
+    pub fn once(self) -> Option<Part>
+        ensures { result ≡ once self }
+    {
+        match self {
+            Times::One(part) => Some(part),
+            Times::Never | Times::More(_) => None,
+        }
+    }
+
+    // The content of an element that is there at most once, if it is there.
+    pub fn at_most_once(self) -> Option<Option<Part>>
+        ensures { result ≡ at_most_once self }
+    {
+        match self {
+            Times::Never => Some(None),
+            Times::One(part) => Some(Some(part)),
+            Times::More(_) => None,
+        }
+    }
+
+    pub fn is_never(self) -> bool
+        ensures { result ≡ is_never self }
+    {
+        matches!(self, Times::Never)
+    }
+
+    // One more of the kind.
+    fn seen(self, content: Part) -> Times
+        ensures { result ≡ seen_of self content }
+    {
+        match self {
+            Times::Never => Times::One(content),
+            // Number by number: a part that is copied whole goes through memory at each element.
+            Times::One(first) | Times::More(first) => Times::More(Part {
+                start: first.start,
+                end: first.end,
+            }),
+        }
+    }
 }
 
 #[derive(Clone, Copy)]
@@ -79,110 +114,59 @@ pub struct Places {
     pub wrapped: Times,
 }
 
-// The numbers serve to compare kinds.
-fn kind_number(kind: Kind) -> u8
-    ensures { result ≡ kind_number kind }
-{
-    match kind {
-        Kind::Rsne => 0,
-        Kind::Timeout => 1,
-        Kind::Mic => 2,
-        Kind::Fragment => 3,
-        Kind::Parameters => 4,
-        Kind::Wrapped => 5,
-        Kind::Skipped => 6,
-    }
-}
-
-// Number by number: a part that is copied whole goes through memory at each element.
-fn again(first: Part) -> Times
-    ensures { result ≡ More first }
-{
-    Times::More(Part {
-        start: first.start,
-        end: first.end,
-    })
-}
-
-fn seen(t: Times, content: Part) -> Times
-    ensures { result ≡ seen_of t content }
-{
-    match t {
-        Times::None => Times::One(content),
-        Times::One(first) => again(first),
-        Times::More(first) => again(first),
-    }
-}
-
-// What is told of the kind `of`, once an element of a kind is met.
-fn mark(kind: Kind, of: Kind, t: Times, content: Part) -> Times
-    ensures { result ≡ mark_of kind of t content }
-{
-    if kind_number(kind) == kind_number(of) {
-        return seen(t, content);
-    }
-    t
-}
-
-// A walk over a whole body: the place of the element that it failed at, or what stands where.
+// The place of the element that the walk failed at.
 #[derive(Clone, Copy)]
-pub enum Scan {
-    Failed(usize),
-    Walked(Places),
-}
+pub struct FailedAt(pub usize);
 
-fn scan_elements(body: &[u8]) -> Scan
+fn scan_elements(body: &[u8]) -> Result<Places, FailedAt>
     ensures { result ≡ scan_by (walk body.now 6) }
 {
-    let mut rsne = Times::None;
-    let mut timeout = Times::None;
-    let mut mic = Times::None;
-    let mut fragment = Times::None;
-    let mut parameters = Times::None;
-    let mut wrapped = Times::None;
+    let mut rsne = Times::Never;
+    let mut timeout = Times::Never;
+    let mut mic = Times::Never;
+    let mut fragment = Times::Never;
+    let mut parameters = Times::Never;
+    let mut wrapped = Times::Never;
     let mut at = HEADER;
     loop {
-        let met = elements::met_at(body, at);
-        match met {
+        match elements::met_at(body, at) {
             Met::End => {
-                return Scan::Walked(Places {
-                    rsne: rsne,
-                    timeout: timeout,
-                    mic: mic,
-                    fragment: fragment,
-                    parameters: parameters,
-                    wrapped: wrapped,
+                return Ok(Places {
+                    rsne,
+                    timeout,
+                    mic,
+                    fragment,
+                    parameters,
+                    wrapped,
                 });
             }
             Met::Failed => {
-                return Scan::Failed(at);
+                return Err(FailedAt(at));
             }
             Met::Stands(e) => {
-                let content = Part {
-                    start: e.start,
-                    end: e.next,
-                };
-                let kind = kind_of(e);
-                rsne = mark(kind, Kind::Rsne, rsne, content);
-                timeout = mark(kind, Kind::Timeout, timeout, content);
-                mic = mark(kind, Kind::Mic, mic, content);
-                fragment = mark(kind, Kind::Fragment, fragment, content);
-                parameters = mark(kind, Kind::Parameters, parameters, content);
-                wrapped = mark(kind, Kind::Wrapped, wrapped, content);
+                let content = e.content();
+                match kind_of(e) {
+                    Kind::Rsne => rsne = rsne.seen(content),
+                    Kind::Timeout => timeout = timeout.seen(content),
+                    Kind::Mic => mic = mic.seen(content),
+                    Kind::Fragment => fragment = fragment.seen(content),
+                    Kind::Parameters => parameters = parameters.seen(content),
+                    Kind::Wrapped => wrapped = wrapped.seen(content),
+                    Kind::Skipped => {}
+                }
                 at = e.next;
             }
         }
     }
 }
 
-pub fn scan_body(body: &[u8]) -> Scan
+// A walk over a whole body: what stands where.
+#[tactic(auto, unfolding(crate::specs::Scan::scan_of, elements::specs::Walk::walk_body))]
+pub fn scan_body(body: &[u8]) -> Result<Places, FailedAt>
     ensures { result ≡ scan_of body.now }
 {
-    if body.len() < HEADER {
-        return Scan::Failed(0);
-    }
-    if LONGEST_BODY < body.len() {
-        return Scan::Failed(0);
+    if body.len() < HEADER || LONGEST_BODY < body.len() {
+        return Err(FailedAt(0));
     }
     scan_elements(body)
 }

@@ -6,9 +6,9 @@ use lib.ListN.{replicate}
 use Rattle.octets.specs.Numbers.{le, octets}
 use Rattle.suites.specs.declared.Suite.TheVariants.{Ours, Other}
 use Rattle.suites.specs.Suite.{suite_at, suite_octets}
-use Rattle.rsne.specs.declared.Only.{Only}
-use Rattle.rsne.specs.declared.Only.TheVariants.{One, Otherwise}
-use Rattle.rsne.specs.declared.Reading.{Reading as Rsne}
+use Rattle.std.specs.Prelude.{Option, None, Some}
+use Rattle.suites.specs.declared.Suite.{Suite}
+use Rattle.rsne.specs.declared.Rsne.{Rsne}
 use Rattle.rsne.specs.Rsne.{rsne_of, rsne_octets}
 
 abbrev real_rsne : List ℕ
@@ -29,18 +29,18 @@ content version pairwise p =
 abbrev one : List ℕ
 one = (1 ∷ 0 ∷ []) ++ ours 4
 
-abbrev read : Only → ℕ → ℕ → Rsne
+abbrev read : Option Suite → ℕ → ℕ → Option Rsne
 read pairwise start end =
-    Rsne.Is (record {
+    Some (record {
       group = Ours 7;
       pairwise = pairwise;
-      akm = One (Ours 8);
+      akm = Some (Ours 8);
       capabilities = 0xc0;
       pmkids = record { start = start; end = end };
       management = Ours 7;
     })
 
-pub real_rsne_read : rsne_of real_rsne ≡ read (One (Ours 4)) 22 38
+pub real_rsne_read : rsne_of real_rsne ≡ read (Some (Ours 4)) 22 38
 unfolding rsne_of le suite_at
 real_rsne_read = refl
 
@@ -48,18 +48,18 @@ pub real_rsne_written : rsne_octets 4 8 (replicate 16 0xa8) ≡ 0x30 ∷ 0x2a �
 unfolding rsne_octets octets suite_octets
 real_rsne_written = refl
 
-pub version_2 : rsne_of (content 2 one 0) ≡ Rsne.Ill
+pub version_2 : rsne_of (content 2 one 0) ≡ None
 unfolding rsne_of le
 version_2 = refl
 
-pub pairwise_65535 : rsne_of (content 1 ((0xff ∷ 0xff ∷ []) ++ ours 4) 0) ≡ Rsne.Ill
+pub pairwise_65535 : rsne_of (content 1 ((0xff ∷ 0xff ∷ []) ++ ours 4) 0) ≡ None
 unfolding rsne_of le
 pairwise_65535 = refl
 
-pub two_pairwise : rsne_of (content 1 ((2 ∷ 0 ∷ []) ++ ours 4 ++ ours 9) 1) ≡ read Otherwise 26 42
+pub two_pairwise : rsne_of (content 1 ((2 ∷ 0 ∷ []) ++ ours 4 ++ ours 9) 1) ≡ read None 26 42
 unfolding rsne_of le suite_at
 two_pairwise = refl
 
-pub other_selector : rsne_of (content 1 (1 ∷ 0 ∷ 0x00 ∷ 0x50 ∷ 0xf2 ∷ 4 ∷ []) 0) ≡ read (One Other) 22 22
+pub other_selector : rsne_of (content 1 (1 ∷ 0 ∷ 0x00 ∷ 0x50 ∷ 0xf2 ∷ 4 ∷ []) 0) ≡ read (Some Other) 22 22
 unfolding rsne_of le suite_at
 other_selector = refl

@@ -1,16 +1,14 @@
 -- RSNE: version 1 (2 octets), group cipher 4, pairwise count 2 and m suites, AKM count 2 and a suites, capabilities 2, PMKID count 2 and p PMKIDs of 16,
 -- group management cipher 4. Its length is exactly 18 + 4m + 4a + 16p; another version or length is ill-formed.
-use Rattle.std.specs.Prelude.{ℕ, ◌+◌, ◌-◌, ◌*◌, ◌/◌, not, List, [], ◌∷◌, ◌++◌, eqb, length, if◌then◌else◌}
+use Rattle.std.specs.Prelude.{ℕ, ◌+◌, ◌-◌, ◌*◌, ◌/◌, ◌&&◌, Option, None, Some, List, [], ◌∷◌, ◌++◌, eqb, length, if◌then◌else◌}
 use Rattle.octets.specs.Numbers.{le, octets}
+use Rattle.suites.specs.declared.Suite.{Suite}
 use Rattle.suites.specs.Suite.{suite_at, suite_octets}
-use Rattle.rsne.specs.declared.Only.{Only}
-use Rattle.rsne.specs.declared.Only.TheVariants.{One, Otherwise}
-use Rattle.rsne.specs.declared.Reading.{Reading}
-use Rattle.rsne.specs.declared.Reading.TheVariants.{Is, Ill}
+use Rattle.rsne.specs.declared.Rsne.{Rsne}
 
 -- the only one of so many suites from a place on
-abbrev pub only_of : List ℕ → ℕ → ℕ → Only
-only_of s count at = if eqb count 1 then One (suite_at s at) else Otherwise
+abbrev pub only_of : List ℕ → ℕ → ℕ → Option Suite
+only_of s count at = if eqb count 1 then Some (suite_at s at) else None
 
 -- the counts, where they stand; octets past the end read as 0, and then the length is not right
 unfoldable pub pairwise_count : List ℕ → ℕ
@@ -25,10 +23,10 @@ unfolding akm_count
 pmkid_count s = le 2 s (12 + 4 * pairwise_count s + 4 * akm_count s)
 
 -- with m pairwise suites, a AKMs and p PMKIDs
-abbrev pub rsne_with : List ℕ → ℕ → ℕ → ℕ → Reading
+abbrev pub rsne_with : List ℕ → ℕ → ℕ → ℕ → Option Rsne
 rsne_with s m a p =
-    if not (eqb (length s) (18 + 4 * m + 4 * a + 16 * p)) then Ill
-    else Is (record {
+    if eqb (le 2 s 0) 1 && eqb (length s) (18 + 4 * m + 4 * a + 16 * p) then
+    Some (record {
       group = suite_at s 2;
       pairwise = only_of s m 8;
       akm = only_of s a (10 + 4 * m);
@@ -36,12 +34,11 @@ rsne_with s m a p =
       pmkids = record { start = 14 + 4 * m + 4 * a; end = 14 + 4 * m + 4 * a + 16 * p };
       management = suite_at s (length s - 4);
     })
+    else None
 
-unfoldable pub rsne_of : List ℕ → Reading
+unfoldable pub rsne_of : List ℕ → Option Rsne
 unfolding pmkid_count
-rsne_of s =
-    if not (eqb (le 2 s 0) 1) then Ill
-    else rsne_with s (pairwise_count s) (akm_count s) (pmkid_count s)
+rsne_of s = rsne_with s (pairwise_count s) (akm_count s) (pmkid_count s)
 
 -- the octets of the whole element, beside its PMKIDs, and of a PMKID
 abbrev pub rsne_size : ℕ

@@ -8,80 +8,59 @@ ghost use Rattle.rsne.specs.Rsne.{only_of, rsne_of, rsne_size, rsne_octets};
 use elements::Part;
 use suites::{GROUP_CIPHER, Suite};
 
-// A list of suites: the one suite that it has, or that it has none or several.
-#[derive(Clone, Copy)]
-pub enum Only {
-    One(Suite),
-    Otherwise,
-}
-
+// What an RSNE says; of a list of suites the only one, or None if it has none or several.
 #[derive(Clone, Copy)]
 pub struct Rsne {
     pub group: Suite,
-    pub pairwise: Only,
-    pub akm: Only,
+    pub pairwise: Option<Suite>,
+    pub akm: Option<Suite>,
     pub capabilities: u16,
     pub pmkids: Part,
     pub management: Suite,
 }
 
-#[derive(Clone, Copy)]
-pub enum Reading {
-    Is(Rsne),
-    Ill,
-}
-
 // The only one of `count` suites from `at` on.
-fn only_of(content: &[u8], count: usize, at: usize) -> Only
+fn only_of(content: &[u8], count: usize, at: usize) -> Option<Suite>
     requires { at + 4 ≤ length content.now }
     ensures { result ≡ only_of content.now count at }
 {
     if count == 1 {
-        return Only::One(suites::suite_at(content, at));
+        Some(suites::suite_at(content, at))
+    } else {
+        None
     }
-    Only::Otherwise
 }
 
-pub fn read(content: &[u8]) -> Reading
+pub fn read(content: &[u8]) -> Option<Rsne>
     ensures { result ≡ rsne_of content.now }
 {
     let n = content.len();
-    if n < 18 {
-        return Reading::Ill;
-    }
-    let version = octets::le2(content, 0);
-    if version != 1 {
-        return Reading::Ill;
+    if n < 18 || octets::le2(content, 0) != 1 {
+        return None;
     }
     let m = octets::le2(content, 6) as usize;
     let pairwise = 4 * m;
-    let without_akms = 18 + pairwise;
-    if n < without_akms {
-        return Reading::Ill;
+    if n < 18 + pairwise {
+        return None;
     }
     let a = octets::le2(content, 8 + pairwise) as usize;
     let akms = 4 * a;
-    let without_pmkids = without_akms + akms;
-    if n < without_pmkids {
-        return Reading::Ill;
+    if n < 18 + pairwise + akms {
+        return None;
     }
     let p = octets::le2(content, 12 + pairwise + akms) as usize;
-    let pmkids = 16 * p;
-    if n != without_pmkids + pmkids {
-        return Reading::Ill;
-    }
     let start = 14 + pairwise + akms;
-    let suites_of_akm = 10 + pairwise;
-    Reading::Is(Rsne {
+    let end = start + 16 * p;
+    if n != end + 4 {
+        return None;
+    }
+    Some(Rsne {
         group: suites::suite_at(content, 2),
         pairwise: only_of(content, m, 8),
-        akm: only_of(content, a, suites_of_akm),
-        capabilities: octets::le2(content, suites_of_akm + akms),
-        pmkids: Part {
-            start: start,
-            end: start + pmkids,
-        },
-        management: suites::suite_at(content, n - 4),
+        akm: only_of(content, a, 10 + pairwise),
+        capabilities: octets::le2(content, 10 + pairwise + akms),
+        pmkids: Part { start, end },
+        management: suites::suite_at(content, end),
     })
 }
 

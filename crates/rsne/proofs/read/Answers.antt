@@ -1,34 +1,23 @@
-use mathlib.Core.Path.{sym, ◌∙◌}
-use native.Mathlib.Omega.{arith}
-use Rattle.rsne.specs.Rsne.{pairwise_count}
-use Rattle.rsne.proofs.Laws.{ill_version, ill_length, akms, pmkids, good}
+use Rattle.std.proofs.Common.{rules, arith}
+use Rattle.rsne.specs.Rsne.{rsne_of, pairwise_count, akm_count, pmkid_count}
 use Rattle.rsne.proofs.read.Goals as goal
 
 pub returns-then-n-lt18 : goal.returns-then-n-lt18
-returns-then-n-lt18 c = ill_length _ (λ e. omega arith)
+unfolding rsne_of
+returns-then-n-lt18 c = grind arith
 
-pub returns-then-version-ne1 : goal.returns-then-version-ne1
-returns-then-version-ne1 c = ill_version _ (λ e. c.if-version-ne1.true (c.le2-version.ensures ∙ e))
+pub returns-then-n-pairwise : goal.returns-then-n-pairwise
+unfolding rsne_of pairwise_count
+returns-then-n-pairwise c = rw (← c.le2-m.ensures) (grind arith)
 
-pub returns-then-n-without_akms : goal.returns-then-n-without_akms
-unfolding pairwise_count
-returns-then-n-without_akms c = ill_length _ (λ e. omega (arith, c.le2-m.ensures))
+pub returns-then-n-pairwise-2 : goal.returns-then-n-pairwise-2
+unfolding rsne_of pairwise_count akm_count pmkid_count
+returns-then-n-pairwise-2 c = rw (← c.le2-m.ensures, ← c.le2-a.ensures) (grind arith)
 
-pub returns-then-n-without_pmkids : goal.returns-then-n-without_pmkids
-unfolding pairwise_count
-returns-then-n-without_pmkids c = ill_length _ (λ e. omega (arith, c.le2-m.ensures, akms _ c.le2-m.ensures c.le2-a.ensures))
-
-pub returns-then-n-without_pmkids-2 : goal.returns-then-n-without_pmkids-2
-unfolding pairwise_count
-returns-then-n-without_pmkids-2 c =
-    let em = c.le2-m.ensures in
-    let ea = akms _ em c.le2-a.ensures in
-    ill_length _ (λ e. c.if-n-without_pmkids-2.true (omega (arith, em, ea, pmkids _ em ea c.le2-p.ensures)))
+pub returns-then-n-end : goal.returns-then-n-end
+unfolding rsne_of pairwise_count akm_count pmkid_count
+returns-then-n-end c = rw (← c.le2-m.ensures, ← c.le2-a.ensures, ← c.le2-p.ensures) (grind arith)
 
 pub returns : goal.returns
-unfolding pairwise_count
-returns c =
-    let em = c.le2-m.ensures in
-    let ea = akms _ em c.le2-a.ensures in
-    good _ (sym c.le2-version.ensures ∙ c.if-version-ne1.false) em ea (pmkids _ em ea c.le2-p.ensures) c.if-n-without_pmkids-2.false
-    c.suite_at.ensures c.only_of.ensures c.only_of-2.ensures c.le2.ensures c.suite_at-2.ensures
+unfolding rsne_of pairwise_count akm_count pmkid_count
+returns c = rw (← c.le2-m.ensures, ← c.le2-a.ensures, ← c.le2-p.ensures) (search rules)

@@ -6,6 +6,7 @@ ghost use Rattle.octets.specs.Wrote.{Wrote};
 ghost use Rattle.rsne.specs.Rsne.{only_of, rsne_of, rsne_size, rsne_octets};
 
 use elements::Part;
+use octets::Number;
 use suites::{GROUP_CIPHER, Suite};
 
 // What an RSNE says; of a list of suites the only one, or None if it has none or several.
@@ -35,20 +36,20 @@ pub fn read(content: &[u8]) -> Option<Rsne>
     ensures { result ≡ rsne_of content.now }
 {
     let n = content.len();
-    if n < 18 || octets::le2(content, 0) != 1 {
+    if n < 18 || u16::read_le(content, 0) != 1 {
         return None;
     }
-    let m = octets::le2(content, 6) as usize;
+    let m = u16::read_le(content, 6) as usize;
     let pairwise = 4 * m;
     if n < 18 + pairwise {
         return None;
     }
-    let a = octets::le2(content, 8 + pairwise) as usize;
+    let a = u16::read_le(content, 8 + pairwise) as usize;
     let akms = 4 * a;
     if n < 18 + pairwise + akms {
         return None;
     }
-    let p = octets::le2(content, 12 + pairwise + akms) as usize;
+    let p = u16::read_le(content, 12 + pairwise + akms) as usize;
     let start = 14 + pairwise + akms;
     let end = start + 16 * p;
     if n != end + 4 {
@@ -58,7 +59,7 @@ pub fn read(content: &[u8]) -> Option<Rsne>
         group: suites::suite_at(content, 2),
         pairwise: only_of(content, m, 8),
         akm: only_of(content, a, 10 + pairwise),
-        capabilities: octets::le2(content, 10 + pairwise + akms),
+        capabilities: u16::read_le(content, 10 + pairwise + akms),
         pmkids: Part { start, end },
         management: suites::suite_at(content, end),
     })

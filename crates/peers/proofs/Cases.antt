@@ -5,7 +5,6 @@ use mathlib.Core.Bool.{true, false}
 use mathlib.Core.List.{List, [], ◌∷◌}
 use Rattle.std.specs.Prelude.{None, Some}
 use lib.ListN.{replicate}
-use Rattle.std.specs.List.{find}
 use Rattle.units.specs.declared.Tu.{Tu}
 use Rattle.peers.specs.declared.Phase.{Phase}
 use Rattle.peers.specs.declared.Phase.TheVariants.{Waiting, Installed}

@@ -3,7 +3,7 @@ use Prim.Native.Nat.{ℕ, ◌≤◌, ◌<◌}
 use mathlib.Core.Path.{◌≡◌, refl, sym, ap, ◌∙◌}
 use mathlib.Core.Bool.{Bool, true, false, ◌&&◌, and-true, and-false, false≢true}
 use mathlib.Core.List.{List, [], ◌∷◌}
-use Rattle.std.specs.Prelude.{Option, None, Some}
+use Rattle.std.specs.Prelude.{Option, None, Some, is_none}
 use native.Mathlib.Omega.{arith}
 use lib.Dec.{eqb}
 use borrow.Author.Tests.{eqb-true}
@@ -12,7 +12,7 @@ use Rattle.octets.proofs.Logic.{both}
 use Rattle.units.specs.declared.Tu.{Tu}
 use Rattle.peers.specs.declared.Peer.{Peer}
 use Rattle.peers.specs.declared.Table.{Table}
-use Rattle.peers.specs.View.{live, is_of, own, shows, others, absent, full}
+use Rattle.peers.specs.View.{live, is_of, own, shows, others, full}
 use Rattle.peers.specs.Promises.{Puts, Drops, while_live}
 use Rattle.peers.specs.Alike.{Alike}
 use Rattle.peers.proofs.Counting.{first_passes, first_stricter}
@@ -50,7 +50,7 @@ module _ (t : Table) (n : Tu) (a : List ℕ) where
   unfolding full
   full_is e = go (shows t n a) refl e
     where
-      go : (o : Option Peer) → shows t n a ≡ o → absent o && eqb (others t n (a ∷ [])) 16 ≡ true → Full
+      go : (o : Option Peer) → shows t n a ≡ o → is_none o && eqb (others t n (a ∷ [])) 16 ≡ true → Full
       go None k e = record { nobody = k; sixteen = eqb-true (others t n (a ∷ [])) 16 e }
       go (Some p) k e = absurd (false≢true e)
 

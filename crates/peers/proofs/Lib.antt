@@ -1,6 +1,6 @@
 pub mod Cases
 pub mod Counting
-pub mod Places
+pub mod Searching
 pub mod Filling
 pub mod Showing
 pub mod Promised

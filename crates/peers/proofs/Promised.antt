@@ -5,6 +5,7 @@ use mathlib.Core.Bool.{Bool, true, false, ◌&&◌, not, and-false, false≢true
 use mathlib.Core.List.{List, [], ◌∷◌}
 use mathlib.Core.Logic.{◌⊎◌, inl, inr}
 use native.Mathlib.Omega.{arith}
+use Rattle.std.specs.Prelude.{is_none}
 use lib.Dec.{eqb}
 use lib.ListN.{length, replicate}
 use borrow.Author.Tests.{eq-eqb, ne_eqb, not-true, not-false}
@@ -13,7 +14,7 @@ use Rattle.octets.proofs.Logic.{both}
 use Rattle.units.specs.declared.Tu.{Tu}
 use Rattle.peers.specs.declared.Peer.{Peer}
 use Rattle.peers.specs.declared.Table.{Table}
-use Rattle.peers.specs.View.{live, is_of, own, other, count, shows, others, absent, full, vacant_peer}
+use Rattle.peers.specs.View.{live, is_of, own, other, count, shows, others, full, vacant_peer}
 use Rattle.peers.specs.Promises.{Nobody, Puts, Drops}
 use Rattle.peers.proofs.Counting.{count_all, count_fewer, first_none, first_repeated, count_repeated}
 use Rattle.peers.proofs.Filling.{fill, fill_none}
@@ -71,10 +72,10 @@ module _ (n : Tu) (a : List ℕ) where
         misses : (q : Peer) → taken q ≡ true → own n a q ≡ false
         misses q k = rw (taken_stays q k)
 
-        go : (x : Bool) → list_all taken t.peers ≡ x → (absent (find (own n a) t.peers) && eqb (count taken t.peers) 16) ≡ x
+        go : (x : Bool) → list_all taken t.peers ≡ x → (is_none (find (own n a) t.peers) && eqb (count taken t.peers) 16) ≡ x
         go true e = rw (first_none taken (own n a) misses t.peers e, eq-eqb (count taken t.peers) 16 (count_all taken t.peers e ∙ l))
         go false e =
-            rw (ne_eqb (count taken t.peers) 16 (λ k. omega (arith, count_fewer taken t.peers e))) (and-false (absent (find (own n a) t.peers)))
+            rw (ne_eqb (count taken t.peers) 16 (λ k. omega (arith, count_fewer taken t.peers e))) (and-false (is_none (find (own n a) t.peers)))
 
 module _ (t : Table) (l : length t.peers ≡ 16) (p : Peer) where
   abbrev n : Tu

@@ -1,13 +1,12 @@
 -- What the operations on a table promise, by what the tables show.
-use Rattle.std.specs.Prelude.{ℕ, ◌+◌, ◌<◌, ◌≤◌, ◌≡◌, Bool, true, false, List, ◌∷◌, get_or, if◌then◌else◌}
-use Rattle.std.specs.Prelude.{Option, None, Some}
+use Rattle.std.specs.Prelude.{ℕ, ◌+◌, ◌<◌, ◌≤◌, ◌≡◌, Bool, true, false, List, ◌∷◌, if◌then◌else◌, Option, None, Some}
 use Rattle.octets.specs.Equality.{same_octets}
 use Rattle.units.specs.declared.Tu.{Tu}
 use Rattle.peers.specs.declared.Peer.{Peer}
 use Rattle.peers.specs.declared.Table.{Table}
 use Rattle.peers.specs.declared.Found.{Found}
 use Rattle.peers.specs.declared.Found.TheVariants.{At, Free, Full}
-use Rattle.peers.specs.View.{live, is_of, other, shows, others, full, vacant_peer, no_peer}
+use Rattle.peers.specs.View.{live, is_of, other, shows, others, full, peer_at}
 
 -- no record, latest reading 0
 pub record Nobody (r : Table) : Type 0 where
@@ -18,7 +17,7 @@ pub record Nobody (r : Table) : Type 0 where
 -- the record shown stands at the place i
 pub record FoundAt (t : Table) (a : List ℕ) (n : Tu) (i : ℕ) : Type 0 where
   pub place : i < 16
-  pub shown : shows t n a ≡ Some (get_or t.peers i no_peer)
+  pub shown : shows t n a ≡ Some (peer_at t i)
 
 -- no record is shown, and the table is full or not, as told
 pub record Missing (t : Table) (a : List ℕ) (n : Tu) (told : Bool) : Type 0 where
@@ -36,11 +35,11 @@ IsPlace (At i) = i < 16
 IsPlace Free = Unit {0}
 IsPlace Full = Unit {0}
 
--- the record that was found, or a vacant one
-abbrev pub found_peer : Table → Found → Peer
-found_peer t (At i) = get_or t.peers i no_peer
-found_peer t Free = vacant_peer
-found_peer t Full = vacant_peer
+-- the record at the place that was found
+abbrev pub shown_at : Table → Found → Option Peer
+shown_at t (At i) = Some (peer_at t i)
+shown_at t Free = None
+shown_at t Full = None
 
 -- a record, while it is live
 abbrev pub while_live : Peer → Tu → Option Peer

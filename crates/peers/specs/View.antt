@@ -1,8 +1,7 @@
 -- What a table shows at a clock reading: which records are live, and never where they stand.
-use Rattle.std.specs.Prelude.{ℕ, ◌+◌, Bool, true, false, ◌&&◌, not, List, [], ◌∷◌, eqb, ltb, replicate, if◌then◌else◌}
-use Rattle.std.specs.Prelude.{Option, None, Some}
-use Rattle.octets.specs.Equality.{same_octets}
+use Rattle.std.specs.Prelude.{ℕ, ◌+◌, Bool, false, ◌&&◌, not, List, [], ◌∷◌, eqb, ltb, get_or, set, replicate, if◌then◌else◌, Option, is_none}
 use Rattle.std.specs.List.{find, list_all}
+use Rattle.octets.specs.Equality.{same_octets}
 use Rattle.units.specs.declared.Tu.{Tu}
 use Rattle.peers.specs.declared.Agreed.{Agreed}
 use Rattle.peers.specs.declared.Phase.{Phase}
@@ -43,13 +42,9 @@ shows t n a = find (own n a) t.peers
 unfoldable pub others : Table → Tu → List (List ℕ) → ℕ
 others t n these = count (other n these) t.peers
 
-abbrev pub absent {ℓ} : {A : Type ℓ} → Option A → Bool
-absent None = true
-absent (Some x) = false
-
 -- No live record of this address, and 16 live records of others.
 unfoldable pub full : Table → Tu → List ℕ → Bool
-full t n a = absent (shows t n a) && eqb (others t n (a ∷ [])) 16
+full t n a = is_none (shows t n a) && eqb (others t n (a ∷ [])) 16
 
 abbrev pub nothing_agreed : Agreed
 nothing_agreed = record { cipher = 0; akm = 0; cached = false; lifetime = record { 0 = 0 } }
@@ -65,3 +60,11 @@ vacant_peer = record { address = replicate 6 0; agreed = nothing_agreed; pmkid =
 -- What the rules for an array read past its end. Written so, an element that the code reads is this very term.
 abbrev pub no_peer : Peer
 no_peer = record { address = []; agreed = nothing_agreed; pmkid = []; phase = Waiting (record { 0 = 0 }) }
+
+-- the record in the i-th place
+abbrev pub peer_at : Table → ℕ → Peer
+peer_at t i = get_or t.peers i no_peer
+
+-- a table with another i-th record
+abbrev pub stored : Table → ℕ → Peer → Table
+stored t i p = record { peers = set t.peers i p; latest = t.latest }

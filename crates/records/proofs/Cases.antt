@@ -6,7 +6,7 @@ use lib.ListN.{replicate}
 use Rattle.octets.specs.Numbers.{le, octets}
 use Rattle.peers.specs.declared.Peer.{Peer}
 use Rattle.peers.specs.declared.Phase.TheVariants.{Waiting, Installed}
-use Rattle.records.specs.Record.{address_at, has_pmkid_at, pmkid_at, phase_at, cipher_at, akm_at, unused_at, lifetime_at, until_at, record_size, is_yes, yes_number, phase_of, phase_number, peer_of, head_of, octets_of}
+use Rattle.records.specs.Record.{address_at, has_pmkid_at, pmkid_at, phase_at, cipher_at, akm_at, unused_at, lifetime_at, until_at, record_size, is_yes, yes_number, phase_of, phase_number, peer_of, octets_of}
 
 pub zero_is_no : is_yes 0 ≡ false
 zero_is_no = refl
@@ -47,9 +47,9 @@ pub a_record_told : octets_of installed
     ++ (1 ∷ 4 ∷ 8 ∷ 0 ∷ 0 ∷ [])
     ++ (0x10 ∷ 0x0e ∷ 0 ∷ 0 ∷ [])
     ++ (0x56 ∷ 0x34 ∷ 0x12 ∷ 0 ∷ 0 ∷ 0 ∷ 0 ∷ 0 ∷ [])
-unfolding octets_of head_of octets
+unfolding octets_of octets
 a_record_told = refl
 
 pub and_read : peer_of (octets_of installed) ≡ installed
-unfolding peer_of octets_of head_of octets le
+unfolding peer_of octets_of octets le
 and_read = refl

@@ -8,11 +8,12 @@ use lib.ListN.{length, get_or, take, drop, length-append, get_or-append}
 use lib.Seq.{take_at, drop_at, get_or-append-add}
 use Rattle.octets.specs.Numbers.{le, octets}
 use Rattle.octets.proofs.Numbers.{length_octets, reads_back}
+use Rattle.std.specs.Int.{from_bool}
 use Rattle.peers.specs.declared.Peer.{Peer}
 use Rattle.peers.specs.declared.Phase.{Phase}
 use Rattle.peers.specs.declared.Phase.TheVariants.{Waiting, Installed}
 use Rattle.peers.specs.View.{until}
-use Rattle.records.specs.Record.{address_at, has_pmkid_at, pmkid_at, phase_at, lifetime_at, until_at, is_yes, yes_number, phase_of, phase_number, peer_of, head_of, octets_of, TellsHead}
+use Rattle.records.specs.Record.{address_at, has_pmkid_at, pmkid_at, phase_at, lifetime_at, until_at, is_yes, yes_number, phase_of, phase_number, peer_of, octets_of}
 
 -- x stands in s from a place on
 record Stands (x : List ℕ) (at : ℕ) (s : List ℕ) : Type 0 where
@@ -53,6 +54,11 @@ read_number v n {at = at} w h =
     ∙ ap (le v (w.front ++ (octets v n ++ w.back))) (sym w.begins)
     ∙ reads_back v n w.front w.back h
 
+-- how the code makes a number of a bool
+pub yes_cast : (b : Bool) → from_bool b ≡ yes_number b
+yes_cast true = refl
+yes_cast false = refl
+
 yes_back : (b : Bool) → is_yes (yes_number b) ≡ b
 yes_back true = refl
 yes_back false = refl
@@ -61,7 +67,7 @@ phase_back : (p : Phase) → phase_of (phase_number p) (until p).0 ≡ p
 phase_back (Waiting deadline) = refl
 phase_back (Installed end) = refl
 
-module _ (p : Peer) {before after : List ℕ} (head : TellsHead p before after) where
+module _ (p : Peer) (address_fits : length p.address ≡ 6) (pmkid_fits : length p.pmkid ≡ 16) where
   abbrev flag : List ℕ
   flag = yes_number p.agreed.cached ∷ []
 
@@ -74,44 +80,42 @@ module _ (p : Peer) {before after : List ℕ} (head : TellsHead p before after) 
   abbrev time : List ℕ
   time = octets 8 (until p.phase).0
 
-  in_head : {x : List ℕ} {at : ℕ} → Stands x at (head_of p) → Stands x at (octets_of p)
+  address_stands : Stands p.address address_at (octets_of p)
   unfolding octets_of
-  in_head w = stands_on time (stands_on lifetime w)
+  address_stands = stands_on time (stands_on lifetime (stands_on suites (stands_on p.pmkid (stands_on flag (stands_last [] p.address refl)))))
 
-  address_stands : Stands p.address address_at (head_of p)
-  unfolding head_of
-  address_stands = stands_on suites (stands_on p.pmkid (stands_on flag (stands_last [] p.address refl)))
+  flag_stands : Stands flag has_pmkid_at (octets_of p)
+  unfolding octets_of
+  flag_stands = stands_on time (stands_on lifetime (stands_on suites (stands_on p.pmkid (stands_last p.address flag address_fits))))
 
-  flag_stands : Stands flag has_pmkid_at (head_of p)
-  unfolding head_of
-  flag_stands = stands_on suites (stands_on p.pmkid (stands_last p.address flag head.address))
+  pmkid_stands : Stands p.pmkid pmkid_at (octets_of p)
+  unfolding octets_of
+  pmkid_stands = stands_on time (stands_on lifetime (stands_on suites (stands_last (p.address ++ flag) p.pmkid (simp length-append (omega arith)))))
 
-  pmkid_stands : Stands p.pmkid pmkid_at (head_of p)
-  unfolding head_of
-  pmkid_stands = stands_on suites (stands_last (p.address ++ flag) p.pmkid (simp length-append (omega (arith, head.address))))
-
-  suites_stand : Stands suites phase_at (head_of p)
-  unfolding head_of
-  suites_stand = stands_last (p.address ++ flag ++ p.pmkid) suites (simp length-append (omega (arith, head.address, head.pmkid)))
+  suites_stand : Stands suites phase_at (octets_of p)
+  unfolding octets_of
+  suites_stand = stands_on time (stands_on lifetime (stands_last (p.address ++ flag ++ p.pmkid) suites (simp length-append (omega arith))))
 
   lifetime_stands : Stands lifetime lifetime_at (octets_of p)
   unfolding octets_of
-  lifetime_stands = stands_on time (stands_last (head_of p) lifetime (sym head.wrote.tells))
+  lifetime_stands = stands_on time (stands_last (p.address ++ flag ++ p.pmkid ++ suites) lifetime (simp length-append (omega arith)))
 
   time_stands : Stands time until_at (octets_of p)
   unfolding octets_of
-  time_stands = stands_last (head_of p ++ lifetime) time (length-append (head_of p) lifetime ∙ omega (arith, head.wrote.tells, length_octets 4 p.agreed.lifetime.0))
+  time_stands =
+      stands_last (p.address ++ flag ++ p.pmkid ++ suites ++ lifetime) time
+      (simp length-append (omega (arith, length_octets 4 p.agreed.lifetime.0)))
 
   pub told : p.agreed.lifetime.0 < 256 ^ 4 → (until p.phase).0 < 256 ^ 8 → peer_of (octets_of p) ≡ p
   unfolding peer_of
   told lifetime_fits time_fits =
       rw (
-        read_part (in_head address_stands) 6 head.address,
-        read_octet (in_head flag_stands) 0 (omega arith),
-        read_part (in_head pmkid_stands) 16 head.pmkid,
-        read_octet (in_head suites_stand) 0 (omega arith),
-        read_octet (in_head suites_stand) 1 (omega arith),
-        read_octet (in_head suites_stand) 2 (omega arith),
+        read_part address_stands 6 address_fits,
+        read_octet flag_stands 0 (omega arith),
+        read_part pmkid_stands 16 pmkid_fits,
+        read_octet suites_stand 0 (omega arith),
+        read_octet suites_stand 1 (omega arith),
+        read_octet suites_stand 2 (omega arith),
         read_number 4 p.agreed.lifetime.0 lifetime_stands lifetime_fits,
         read_number 8 (until p.phase).0 time_stands time_fits,
         yes_back p.agreed.cached,

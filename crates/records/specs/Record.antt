@@ -1,5 +1,5 @@
 -- A record in octets, numbers low octet first: which record any octets are, and the octets that tell a record.
-use Rattle.std.specs.Prelude.{ℕ, ◌+◌, ◌^◌, ◌<◌, ◌≡◌, Bool, not, List, [], ◌∷◌, ◌++◌, eqb, length, get_or, take, drop, if◌then◌else◌}
+use Rattle.std.specs.Prelude.{ℕ, ◌+◌, ◌≡◌, Bool, not, List, [], ◌∷◌, ◌++◌, eqb, get_or, take, drop, if◌then◌else◌}
 use Rattle.octets.specs.Numbers.{le, octets}
 use Rattle.octets.specs.Wrote.{Wrote}
 use Rattle.peers.specs.declared.Peer.{Peer}
@@ -63,23 +63,15 @@ peer_of r = record {
   phase = phase_of (get_or r phase_at 0) (le 8 r until_at);
 }
 
--- The octets that tell a record: those in front of the numbers, the two unused ones 0, and then the numbers.
-unfoldable pub head_of : Peer → List ℕ
-head_of p = p.address ++ (yes_number p.agreed.cached ∷ []) ++ p.pmkid ++ (phase_number p.phase ∷ p.agreed.cipher ∷ p.agreed.akm ∷ 0 ∷ 0 ∷ [])
-
+-- the octets that tell a record, the two unused ones 0
 unfoldable pub octets_of : Peer → List ℕ
-octets_of p = head_of p ++ octets 4 p.agreed.lifetime.0 ++ octets 8 (until p.phase).0
-
--- A number is told at the front in w octets, and is one that they can tell.
-pub record TellsNumber (w n : ℕ) (before after : List ℕ) : Type 0 where
-  pub wrote : Wrote (octets w n) w before after
-  pub fits : n < 256 ^ w
-
--- What stands in front of the numbers is told, and the strings in it have their lengths.
-pub record TellsHead (p : Peer) (before after : List ℕ) : Type 0 where
-  pub wrote : Wrote (head_of p) lifetime_at before after
-  pub address : length p.address ≡ 6
-  pub pmkid : length p.pmkid ≡ 16
+octets_of p =
+    p.address
+    ++ (yes_number p.agreed.cached ∷ [])
+    ++ p.pmkid
+    ++ (phase_number p.phase ∷ p.agreed.cipher ∷ p.agreed.akm ∷ 0 ∷ 0 ∷ [])
+    ++ octets 4 p.agreed.lifetime.0
+    ++ octets 8 (until p.phase).0
 
 -- A record is told at the front, in octets that read as that very record.
 pub record Tells (p : Peer) (before after : List ℕ) : Type 0 where

@@ -2,13 +2,15 @@
 #![tactic(auto)]
 
 ghost use Rattle.std.specs.Prelude.{◌≡◌, ◌≤◌, length};
-ghost use Rattle.records.specs.Record.{lifetime_at, record_size, is_yes, yes_number, phase_of, phase_number, peer_of, TellsNumber, TellsHead, Tells};
+ghost use Rattle.peers.specs.View.{until, is_of};
+ghost use Rattle.records.specs.Record.{record_size, is_yes, phase_of, phase_number, peer_of, Tells};
 
+use octets::Number;
 use peers::{Agreed, Peer, Phase};
 use units::{Seconds, Tu};
 
 // Where the fields begin, each behind the one before it.
-pub const ADDRESS_AT: usize = 0;
+const ADDRESS_AT: usize = 0;
 
 const HAS_PMKID_AT: usize = ADDRESS_AT + 6;
 
@@ -25,7 +27,7 @@ const UNUSED_AT: usize = AKM_AT + 1;
 
 const LIFETIME_AT: usize = UNUSED_AT + 2;
 
-pub const UNTIL_AT: usize = LIFETIME_AT + 4;
+const UNTIL_AT: usize = LIFETIME_AT + 4;
 
 // How many octets a record has.
 pub const SIZE: usize = UNTIL_AT + 8;
@@ -37,22 +39,13 @@ pub fn is_yes(n: u8) -> bool
     n != 0
 }
 
-fn yes_number(yes: bool) -> u8
-    ensures { result ≡ yes_number yes }
+fn phase_of(phase: u8, until: Tu) -> Phase
+    ensures { result ≡ phase_of phase until.0 }
 {
-    if yes {
-        return 1;
+    match phase {
+        0 => Phase::Waiting(until),
+        _ => Phase::Installed(until),
     }
-    0
-}
-
-fn phase_of(phase: u8, until: u64) -> Phase
-    ensures { result ≡ phase_of phase until }
-{
-    if phase == 0 {
-        return Phase::Waiting(Tu(until));
-    }
-    Phase::Installed(Tu(until))
 }
 
 fn phase_number(phase: Phase) -> u8
@@ -64,57 +57,40 @@ fn phase_number(phase: Phase) -> u8
     }
 }
 
+// The deadline or end of the record at the front of r, and whether that is of an address: no more of it is read.
+#[tactic(auto, unfolding(crate::specs::Record::peer_of))]
+pub fn until(r: &[u8]) -> Tu
+    requires { record_size ≤ length r.now }
+    ensures { result ≡ until (peer_of r.now).phase }
+{
+    Tu(u64::read_le(r, UNTIL_AT))
+}
+
+#[tactic(auto, unfolding(crate::specs::Record::peer_of))]
+pub fn is_of(r: &[u8], address: &[u8; 6]) -> bool
+    requires { record_size ≤ length r.now }
+    ensures { result ≡ is_of (peer_of r.now) address.now }
+{
+    octets::same(&r[ADDRESS_AT..HAS_PMKID_AT], address)
+}
+
 // The record at the front of r.
+#[tactic(auto, unfolding(crate::specs::Record::peer_of))]
 pub fn read(r: &[u8]) -> Peer
     requires { record_size ≤ length r.now }
     ensures { result ≡ peer_of r.now }
 {
-    let mut address = [0; 6];
-    let mut pmkid = [0; 16];
-    octets::copy_in(&mut address, &r[ADDRESS_AT..HAS_PMKID_AT]);
-    octets::copy_in(&mut pmkid, &r[PMKID_AT..PHASE_AT]);
-    let agreed = Agreed {
-        cipher: r[CIPHER_AT],
-        akm: r[AKM_AT],
-        cached: is_yes(r[HAS_PMKID_AT]),
-        lifetime: Seconds(octets::le4(r, LIFETIME_AT)),
-    };
     Peer {
-        address: address,
-        agreed: agreed,
-        pmkid: pmkid,
-        phase: phase_of(r[PHASE_AT], octets::le8(r, UNTIL_AT)),
+        address: r[ADDRESS_AT..HAS_PMKID_AT].try_into().unwrap(),
+        agreed: Agreed {
+            cipher: r[CIPHER_AT],
+            akm: r[AKM_AT],
+            cached: is_yes(r[HAS_PMKID_AT]),
+            lifetime: Seconds(u32::read_le(r, LIFETIME_AT)),
+        },
+        pmkid: r[PMKID_AT..PHASE_AT].try_into().unwrap(),
+        phase: phase_of(r[PHASE_AT], until(r)),
     }
-}
-
-fn put_seconds(d: &mut [u8], s: Seconds)
-    requires { 4 ≤ length d.old }
-    ensures { TellsNumber 4 s.0 d.old d.new }
-{
-    octets::put_le4(d, s.0);
-}
-
-pub fn put_tu(d: &mut [u8], t: Tu)
-    requires { 8 ≤ length d.old }
-    ensures { TellsNumber 8 t.0 d.old d.new }
-{
-    octets::put_le8(d, t.0);
-}
-
-// Writes what stands in front of the numbers.
-fn put_head(d: &mut [u8], p: Peer)
-    requires { lifetime_at ≤ length d.old }
-    ensures { TellsHead p d.old d.new }
-{
-    let agreed = p.agreed;
-    let phase = p.phase;
-    octets::copy_in(&mut d[ADDRESS_AT..], &p.address);
-    octets::copy_in(&mut d[HAS_PMKID_AT..], &[yes_number(agreed.cached)]);
-    octets::copy_in(&mut d[PMKID_AT..], &p.pmkid);
-    octets::copy_in(
-        &mut d[PHASE_AT..],
-        &[phase_number(phase), agreed.cipher, agreed.akm, 0, 0],
-    );
 }
 
 // Writes p at the front of d.
@@ -122,11 +98,20 @@ pub fn put(d: &mut [u8], p: Peer)
     requires { record_size ≤ length d.old }
     ensures { Tells p d.old d.new }
 {
-    let agreed = p.agreed;
-    let phase = p.phase;
-    let lifetime = agreed.lifetime;
-    let until = peers::until(phase);
-    put_head(d, p);
-    put_seconds(&mut d[LIFETIME_AT..], lifetime);
-    put_tu(&mut d[UNTIL_AT..], until);
+    let Agreed {
+        cipher,
+        akm,
+        cached,
+        lifetime,
+    } = p.agreed;
+    let until = p.phase.until();
+    octets::copy_in(&mut d[ADDRESS_AT..], &p.address);
+    octets::copy_in(&mut d[HAS_PMKID_AT..], &[u8::from(cached)]);
+    octets::copy_in(&mut d[PMKID_AT..], &p.pmkid);
+    octets::copy_in(
+        &mut d[PHASE_AT..],
+        &[phase_number(p.phase), cipher, akm, 0, 0],
+    );
+    lifetime.0.put_le(&mut d[LIFETIME_AT..]);
+    until.0.put_le(&mut d[UNTIL_AT..]);
 }

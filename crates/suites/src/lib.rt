@@ -21,6 +21,7 @@ pub enum Suite {
 }
 
 // The suite in the four octets of s from `at` on.
+#[tactic(auto, unfolding(crate::specs::Suite::suite_at))]
 pub fn suite_at(s: &[u8], at: usize) -> Suite
     requires { at + 4 ≤ length s.now }
     ensures { result ≡ suite_at s.now at }
@@ -33,6 +34,7 @@ pub fn suite_at(s: &[u8], at: usize) -> Suite
 }
 
 // Writes the suite of a type to the front of d.
+#[tactic(auto, unfolding(crate::specs::Suite::suite_octets))]
 pub fn put_suite(d: &mut [u8], kind: u8) -> usize
     requires { 4 ≤ length d.old }
     ensures { Wrote (suite_octets kind) result d.old d.new }
@@ -125,6 +127,7 @@ pub struct KeyForm {
 }
 
 impl KeyForm {
+    #[tactic(auto, unfolding(crate::specs::Tables::has_form))]
     fn is_form_of(self, key: &[u8]) -> bool
         ensures { result ≡ has_form key.now self }
     {
@@ -145,6 +148,7 @@ pub struct Group {
 
 impl Group {
     // Whether a key's length and first octet are those of one of the group's forms.
+    #[tactic(auto, unfolding(crate::specs::Tables::is_key_of))]
     pub fn is_key(self, key: &[u8]) -> bool
         ensures { result ≡ is_key_of self key.now }
     {

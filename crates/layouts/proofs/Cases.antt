@@ -1,13 +1,13 @@
 -- Worked examples.
 use mathlib.Core.Path.{◌≡◌, refl}
 use mathlib.Core.List.{[], ◌∷◌}
+use Rattle.std.specs.Prelude.{None, Some}
 use Rattle.octets.specs.Numbers.{le, octets}
-use Rattle.layouts.specs.declared.timeout.Timeout.{Timeout}
 use Rattle.layouts.specs.Mic.{mic_octets}
 use Rattle.layouts.specs.Timeout.{timeout_of, timeout_octets}
 
 -- Timeout Interval
-pub ten_minutes : timeout_of (2 ∷ 0x58 ∷ 0x02 ∷ 0 ∷ 0 ∷ []) ≡ Timeout.Lifetime (record { 0 = 600 })
+pub ten_minutes : timeout_of (2 ∷ 0x58 ∷ 0x02 ∷ 0 ∷ 0 ∷ []) ≡ Some (record { 0 = 600 })
 unfolding timeout_of le
 ten_minutes = refl
 
@@ -15,15 +15,15 @@ pub ten_minutes_written : timeout_octets (record { 0 = 600 }) ≡ 0x38 ∷ 5 ∷
 unfolding timeout_octets octets
 ten_minutes_written = refl
 
-pub type_3 : timeout_of (3 ∷ 0x58 ∷ 0x02 ∷ 0 ∷ 0 ∷ []) ≡ Timeout.Ill
+pub type_3 : timeout_of (3 ∷ 0x58 ∷ 0x02 ∷ 0 ∷ 0 ∷ []) ≡ None
 unfolding timeout_of
 type_3 = refl
 
-pub no_seconds : timeout_of (2 ∷ 0 ∷ 0 ∷ 0 ∷ 0 ∷ []) ≡ Timeout.Ill
+pub no_seconds : timeout_of (2 ∷ 0 ∷ 0 ∷ 0 ∷ 0 ∷ []) ≡ None
 unfolding timeout_of le
 no_seconds = refl
 
-pub six_octets : timeout_of (2 ∷ 0x58 ∷ 0x02 ∷ 0 ∷ 0 ∷ 0 ∷ []) ≡ Timeout.Ill
+pub six_octets : timeout_of (2 ∷ 0x58 ∷ 0x02 ∷ 0 ∷ 0 ∷ 0 ∷ []) ≡ None
 unfolding timeout_of
 six_octets = refl
 

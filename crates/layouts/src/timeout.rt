@@ -3,31 +3,25 @@ ghost use Rattle.std.specs.Prelude.{◌≡◌, ◌≤◌, length};
 ghost use Rattle.octets.specs.Wrote.{Wrote};
 ghost use Rattle.layouts.specs.Timeout.{timeout_of, timeout_size, timeout_octets};
 
+use octets::Number;
 use units::Seconds;
-
-#[derive(Clone, Copy)]
-pub enum Timeout {
-    Lifetime(Seconds),
-    Ill,
-}
 
 // Type 2, a key lifetime.
 const KEY_LIFETIME: u8 = 2;
 
-pub fn read(content: &[u8]) -> Timeout
+// The lifetime that an element's content asks for.
+#[tactic(auto, unfolding(crate::specs::Timeout::timeout_of))]
+pub fn read(content: &[u8]) -> Option<Seconds>
     ensures { result ≡ timeout_of content.now }
 {
-    if content.len() != 5 {
-        return Timeout::Ill;
+    if content.len() != 5 || content[0] != KEY_LIFETIME {
+        return None;
     }
-    if content[0] != KEY_LIFETIME {
-        return Timeout::Ill;
-    }
-    let seconds = octets::le4(content, 1);
+    let seconds = u32::read_le(content, 1);
     if seconds == 0 {
-        return Timeout::Ill;
+        return None;
     }
-    Timeout::Lifetime(Seconds(seconds))
+    Some(Seconds(seconds))
 }
 
 // The octets of an element.
@@ -38,5 +32,5 @@ pub fn put(d: &mut [u8], lifetime: Seconds) -> usize
     ensures { Wrote (timeout_octets lifetime) result d.old d.new }
 {
     let head = octets::copy_in(d, &[56, 5, KEY_LIFETIME]);
-    head + octets::put_le4(&mut d[head..], lifetime.0)
+    head + lifetime.0.put_le(&mut d[head..])
 }

@@ -1,11 +1,8 @@
 -- The octets that a host keeps, sixteen records and then the latest reading: which table any octets are.
-use Rattle.std.specs.Prelude.{ℕ, ◌+◌, ◌*◌, ◌≡◌, List, map, get_or, set}
+use Rattle.std.specs.Prelude.{ℕ, ◌+◌, ◌*◌, List, map}
 use Rattle.octets.specs.Numbers.{le}
 use Rattle.octets.specs.Pieces.{pieces}
-use Rattle.units.specs.declared.Tu.{Tu}
-use Rattle.peers.specs.declared.Peer.{Peer}
 use Rattle.peers.specs.declared.Table.{Table}
-use Rattle.peers.specs.View.{dated, no_peer}
 use Rattle.records.specs.Record.{record_size, peer_of}
 
 -- where the latest reading begins
@@ -19,16 +16,3 @@ state_size = latest_at + 8
 -- the table that a state is
 unfoldable pub table_of : List ℕ → Table
 table_of s = record { peers = map peer_of (pieces record_size 16 s); latest = record { 0 = le 8 s latest_at } }
-
--- the i-th record of it
-abbrev pub place : List ℕ → ℕ → Peer
-place s i = get_or (table_of s).peers i no_peer
-
--- a table with another i-th record
-abbrev pub stored : Table → ℕ → Peer → Table
-stored t i p = record { peers = set t.peers i p; latest = t.latest }
-
--- The latest reading of a state becomes n. Where it was n already, every octet stays.
-pub record Redates (s : List ℕ) (n : Tu) (s' : List ℕ) : Type 0 where
-  pub table : table_of s' ≡ dated (table_of s) n
-  pub same : n ≡ (table_of s).latest → s' ≡ s

@@ -4,9 +4,10 @@ use mathlib.Core.Bool.{true, false}
 use mathlib.Core.List.{List, [], ◌∷◌, ◌++◌}
 use Prim.Native.Nat.{ℕ, zero, suc}
 use lib.ListN.{length, replicate}
+use Rattle.std.specs.Prelude.{Option, None, Some}
 use Rattle.octets.specs.Numbers.{le, octets}
 use Rattle.cache.specs.declared.Choice.{Choice}
-use Rattle.cache.specs.File.{Cached, records, cache_of, is_well_formed, records_of}
+use Rattle.cache.specs.File.{Cached, cache_of, is_well_formed, records_of}
 use Rattle.cache.specs.Search.{choice_of}
 use Rattle.cache.specs.Written.{cache_octets}
 
@@ -33,7 +34,7 @@ pub empty : is_well_formed [] ≡ true
 unfolding is_well_formed
 empty = refl
 
-pub one_record : cache_of (one 7 6 0x0102030405060708) ≡ records (of 7 6 0x0102030405060708 ∷ [])
+pub one_record : cache_of (one 7 6 0x0102030405060708) ≡ Some (of 7 6 0x0102030405060708 ∷ [])
 unfolding cache_of le octets
 one_record = refl
 
@@ -75,28 +76,31 @@ pub two_written : cache_octets (of 7 6 100 ∷ of 9 8 200 ∷ []) ≡ one 7 6 10
 unfolding cache_octets octets
 two_written = refl
 
+abbrev chosen : ℕ → ℕ → Choice
+chosen k end = record { pmkid = k; end = record { 0 = end } }
+
 -- what a list of PMKIDs is answered, by a file, for an AKM and a reading
-abbrev asked : List ℕ → List (List ℕ) → ℕ → ℕ → Choice
+abbrev asked : List ℕ → List (List ℕ) → ℕ → ℕ → Option Choice
 asked file pmkids akm reading = choice_of (records_of file) pmkids akm (record { 0 = reading })
 
-pub the_akm : asked (one 7 6 100) (id 7 ∷ []) 6 99 ≡ Choice.Chosen 0 (record { 0 = 100 })
+pub the_akm : asked (one 7 6 100) (id 7 ∷ []) 6 99 ≡ Some (chosen 0 100)
 unfolding choice_of records_of le octets
 the_akm = refl
 
-pub end_now : asked (one 7 6 100) (id 7 ∷ []) 6 100 ≡ Choice.Nothing
+pub end_now : asked (one 7 6 100) (id 7 ∷ []) 6 100 ≡ None
 unfolding choice_of records_of le octets
 end_now = refl
 
-pub end_in_one : asked (one 7 6 101) (id 7 ∷ []) 6 100 ≡ Choice.Chosen 0 (record { 0 = 101 })
+pub end_in_one : asked (one 7 6 101) (id 7 ∷ []) 6 100 ≡ Some (chosen 0 101)
 unfolding choice_of records_of le octets
 end_in_one = refl
 
 -- the frame's order of PMKIDs, not the file's
-pub first_pmkid : asked (one 7 6 100 ++ one 9 6 200) (id 5 ∷ id 9 ∷ id 7 ∷ []) 6 99 ≡ Choice.Chosen 1 (record { 0 = 200 })
+pub first_pmkid : asked (one 7 6 100 ++ one 9 6 200) (id 5 ∷ id 9 ∷ id 7 ∷ []) 6 99 ≡ Some (chosen 1 200)
 unfolding choice_of records_of le octets
 first_pmkid = refl
 
 -- of three records of one PMKID the first is expired
-pub first_unexpired : asked (one 7 6 50 ++ (one 7 6 100 ++ one 7 6 200)) (id 7 ∷ []) 6 99 ≡ Choice.Chosen 0 (record { 0 = 100 })
+pub first_unexpired : asked (one 7 6 50 ++ (one 7 6 100 ++ one 7 6 200)) (id 7 ∷ []) 6 99 ≡ Some (chosen 0 100)
 unfolding choice_of records_of le octets
 first_unexpired = refl

@@ -9,22 +9,22 @@ use native.Mathlib.Nat.{sub-zero}
 use native.Mathlib.Omega.{arith}
 use borrow.Author.Tests.{eqb-true, ltb-true}
 use lib.Dec.{eqb, ltb}
-use lib.ListN.{length, get_or, get_elem?}
+use lib.ListN.{length, get_or}
 use Rattle.std.specs.Prelude.{if◌then◌else◌}
 use Rattle.octets.specs.Equality.{same_octets}
-use Rattle.std.specs.List.{find}
-use Rattle.octets.specs.Search.{entry}
+use Rattle.std.specs.List.{slice_get}
+use Rattle.std.specs.Option.{option_map_or}
 use Rattle.octets.proofs.Equality.{same_eq}
 use Rattle.octets.proofs.Logic.{both}
 use Rattle.units.specs.declared.Tu.{Tu}
 use Rattle.cache.specs.declared.Choice.{Choice}
 use Rattle.cache.specs.File.{Cached}
-use Rattle.cache.specs.Search.{matches, found_of, choice_from, choice_of}
+use Rattle.cache.specs.Search.{end_of, matches, found_of, choice_from, choice_of}
 
 -- What was found: it stands in the list, by its place, with that PMKID, the same AKM and an end later than the reading.
 pub record Matched (cs : List Cached) (pmkid : List ℕ) (akm : ℕ) (reading : Tu) (c : Cached) : Type 0 where
   pub place : ℕ
-  pub stands : get_elem? cs place ≡ Some c
+  pub stands : slice_get cs place ≡ Some c
   pub same_pmkid : c.pmkid ≡ pmkid
   pub same_akm : c.akm ≡ akm
   pub later : reading.0 < c.end
@@ -59,25 +59,19 @@ pub record Chosen (cs : List Cached) (pmkids : List (List ℕ)) (akm : ℕ) (rea
   pub found : Matched cs (get_or pmkids k []) akm reading cached
   pub told : end.0 ≡ cached.end
 
-chosen_number : {j k : ℕ} {s t : Tu} → Choice.Chosen j s ≡ Choice.Chosen k t → j ≡ k
-chosen_number e = cc
-
-chosen_end : {j k : ℕ} {s t : Tu} → Choice.Chosen j s ≡ Choice.Chosen k t → t.0 ≡ s.0
-chosen_end e = cc
-
-nothing_chosen : {k : ℕ} {t : Tu} → Choice.Nothing ≡ Choice.Chosen k t → ⊥
-nothing_chosen e = let z : ◌≡◌ {A = ℕ} 0 1 = cc in omega arith
+abbrev choice : ℕ → Tu → Choice
+choice k end = record { pmkid = k; end = end }
 
 module _ (cs : List Cached) (akm : ℕ) (reading : Tu) {k : ℕ} {end : Tu} where
-  chosen_from : (j : ℕ) (pmkids : List (List ℕ)) → choice_from j cs pmkids akm reading ≡ Choice.Chosen k end
+  chosen_from : (j : ℕ) (pmkids : List (List ℕ)) → choice_from j cs pmkids akm reading ≡ Some (choice k end)
       → (j ≤ k) × Chosen cs pmkids akm reading (k - j) end
   unfolding choice_from
-  chosen_from j [] e = absurd (nothing_chosen e)
+  chosen_from j [] e = cc
   chosen_from j (p ∷ ps) e = go (chosen_from (j + 1) ps) (found_of cs p akm reading) refl e
     where
-      go : (choice_from (j + 1) cs ps akm reading ≡ Choice.Chosen k end → (j + 1 ≤ k) × Chosen cs ps akm reading (k - (j + 1)) end)
+      go : (choice_from (j + 1) cs ps akm reading ≡ Some (choice k end) → (j + 1 ≤ k) × Chosen cs ps akm reading (k - (j + 1)) end)
           → (o : Option Cached) → found_of cs p akm reading ≡ o
-          → entry (λ c. Choice.Chosen j (record { 0 = c.end })) (choice_from (j + 1) cs ps akm reading) o ≡ Choice.Chosen k end
+          → option_map_or (λ c. Some (choice j (end_of c))) o (choice_from (j + 1) cs ps akm reading) ≡ Some (choice k end)
           → (j ≤ k) × Chosen cs (p ∷ ps) akm reading (k - j) end
       go ih None q e =
           let r = ih e in
@@ -88,13 +82,14 @@ module _ (cs : List Cached) (akm : ℕ) (reading : Tu) {k : ℕ} {end : Tu} wher
                 (record { listed = omega (arith, d.listed); cached = d.cached; found = d.found; told = d.told }),
           )
       go ih (Some c) q e =
-          let m = chosen_number e in
+          let same = some-injective (choice j (end_of c)) (choice k end) e in
+          let m : j ≡ k = ap (λ (c : Choice). c.pmkid) same in
           let n : 0 ≡ k - j = omega arith in (
             omega arith,
             subst (λ (n : ℕ). Chosen cs (p ∷ ps) akm reading n end) n
-                (record { listed = omega arith; cached = c; found = matched p akm reading cs c q; told = chosen_end e }),
+                (record { listed = omega arith; cached = c; found = matched p akm reading cs c q; told = sym (ap (λ (c : Choice). c.end.0) same) }),
           )
 
-  pub chosen : (pmkids : List (List ℕ)) → choice_of cs pmkids akm reading ≡ Choice.Chosen k end → Chosen cs pmkids akm reading k end
+  pub chosen : (pmkids : List (List ℕ)) → choice_of cs pmkids akm reading ≡ Some (choice k end) → Chosen cs pmkids akm reading k end
   unfolding choice_of
   chosen pmkids e = subst (λ (n : ℕ). Chosen cs pmkids akm reading n end) (sub-zero k) (chosen_from 0 pmkids e).1

@@ -1,7 +1,6 @@
 pub mod Cases
-pub mod Records
 pub mod File
-pub mod Check
+pub mod Chunks
 pub mod Search
 pub mod Laws
 pub mod Written

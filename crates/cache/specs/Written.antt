@@ -1,8 +1,8 @@
 -- The cache file as it is written. Reading and writing are each other's inverse.
-use Rattle.std.specs.Prelude.{◌≡◌, List, [], ◌∷◌, ◌++◌, ℕ, ◌^◌, ◌≤◌, ◌<◌, length, get_or}
+use Rattle.std.specs.Prelude.{Some, ◌≡◌, List, [], ◌∷◌, ◌++◌, ℕ, ◌^◌, ◌≤◌, ◌<◌, length, get_or}
 use Rattle.octets.specs.Numbers.{octets}
 use Rattle.octets.specs.Search.{Each}
-use Rattle.cache.specs.File.{Cached, records, cache_of}
+use Rattle.cache.specs.File.{Cached, cache_of}
 
 -- a value: PMKID 16, AKM type 1, end 8 (TU)
 unfoldable pub value_octets : Cached → List ℕ
@@ -36,12 +36,12 @@ pub record Writable (cs : List Cached) : Type 0 where
 
 -- Reading shows what was written.
 abbrev pub ReadsBack : Type 0
-ReadsBack = (cs : List Cached) → Writable cs → cache_of (cache_octets cs) ≡ records cs
+ReadsBack = (cs : List Cached) → Writable cs → cache_of (cache_octets cs) ≡ Some cs
 
 -- A file that reads well is what its records write.
 abbrev pub WrittenSo : Type 0
-WrittenSo = (file : List ℕ) (cs : List Cached) → AreOctets file → cache_of file ≡ records cs → file ≡ cache_octets cs
+WrittenSo = (file : List ℕ) (cs : List Cached) → AreOctets file → cache_of file ≡ Some cs → file ≡ cache_octets cs
 
 -- What reads well can be written.
 abbrev pub ReadsWritable : Type 0
-ReadsWritable = (file : List ℕ) (cs : List Cached) → AreOctets file → cache_of file ≡ records cs → Writable cs
+ReadsWritable = (file : List ℕ) (cs : List Cached) → AreOctets file → cache_of file ≡ Some cs → Writable cs

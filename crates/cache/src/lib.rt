@@ -1,12 +1,12 @@
-// The cache file: whether it is well-formed, and the search. It is read where it lies.
+// The cache file: whether it is well-formed, and the search.
 #![tactic(auto)]
 
-ghost use Rattle.std.specs.Prelude.{◌≡◌, true, ◌+◌, ◌/◌, ◌≤◌, length};
+ghost use Rattle.std.specs.Prelude.{◌≡◌, true, ◌/◌, length, IfSome, is_some, option_map};
 ghost use Rattle.octets.specs.Pieces.{pieces};
-ghost use Rattle.cache.specs.declared.Read.TheVariants.{Stands};
-ghost use Rattle.cache.specs.File.{stands, read_at, cached_at, is_well_formed, records_of};
-ghost use Rattle.cache.specs.Search.{matches, found_of, told, choice_of};
+ghost use Rattle.cache.specs.File.{is_record, cached_of, is_well_formed, records_of};
+ghost use Rattle.cache.specs.Search.{matches, end_of, found_of, choice_of};
 
+use octets::Number;
 use units::Tu;
 
 // A record: its tag, the length of its value, and how many octets it has in all.
@@ -18,153 +18,96 @@ const RECORD: usize = 28;
 
 const MOST_RECORDS: usize = 64;
 
-// The octets of a PMKID, which a value begins with.
+// The octets of a PMKID.
 const PMKID: usize = 16;
 
-// Of a record of the file: where its value starts, and the place after it.
-#[derive(Clone, Copy)]
-struct Record {
-    value: usize,
-    next: usize,
-}
+// Where in a record its PMKID, its AKM type and its end stand.
+const PMKID_AT: usize = 3;
 
-// What stands at a place of the file.
-#[derive(Clone, Copy)]
-enum Read {
-    Stands(Record),
-    End,
-    Ill,
-}
+const AKM_AT: usize = PMKID_AT + PMKID;
 
-// The record at a place where one stands. Every walk of the file steps by this: the check where `read_at` finds one, the search, whose file is well-formed, at once.
-fn record_at(file: &[u8], at: usize) -> Record
-    requires { stands (read_at file.now at) ≡ true }
-    ensures { read_at file.now at ≡ Stands result }
+const END_AT: usize = AKM_AT + 1;
+
+// Whether so many octets are a record.
+fn is_record(octets: &[u8]) -> bool
+    requires { length octets.now ≡ 28 }
+    ensures { result ≡ is_record 0x31 25 octets.now }
 {
-    Record {
-        value: at + 3,
-        next: at + RECORD,
-    }
+    octets[0] == TAG && u16::read_le(octets, 1) == LENGTH
 }
 
-// The end and a tail are found by one test.
-fn read_at(file: &[u8], at: usize) -> Read
-    requires { at ≤ length file.now }
-    ensures { result ≡ read_at file.now at }
-{
-    let left = file.len() - at;
-    if left < RECORD {
-        if left == 0 {
-            return Read::End;
-        }
-        return Read::Ill;
-    }
-    if file[at] != TAG {
-        return Read::Ill;
-    }
-    if octets::le2(file, at + 1) != LENGTH {
-        return Read::Ill;
-    }
-    Read::Stands(record_at(file, at))
-}
-
-// The records are counted, and their number is judged at the end: a test at each record would slow the walk down.
+// A file's length tells how many records it is to have, so that none are counted on the way.
 pub fn is_well_formed(file: &[u8]) -> bool
     ensures { result ≡ is_well_formed file.now }
 {
-    let mut at = 0;
-    let mut count = 0;
-    loop {
-        let read = read_at(file, at);
-        match read {
-            Read::Stands(record) => {
-                at = record.next;
-                count += 1;
-            }
-            Read::End => {
-                return count <= MOST_RECORDS;
-            }
-            Read::Ill => {
-                return false;
-            }
-        }
-    }
+    file.len() % RECORD == 0
+        && file.len() / RECORD <= MOST_RECORDS
+        && file.chunks_exact(RECORD).all(is_record)
 }
 
-// The end of the record whose value starts at a place: it stands behind PMKID and AKM type.
-fn end_at(file: &[u8], value: usize) -> Tu
-    requires { value + 25 ≤ length file.now }
-    ensures { result.0 ≡ (cached_at file.now value).end }
+// The end of a record.
+fn end_of(cached: &[u8]) -> Tu
+    requires { length cached.now ≡ 28 }
+    ensures { result ≡ end_of (cached_of cached.now) }
 {
-    Tu(octets::le8(file, value + 17))
+    Tu(u64::read_le(cached, END_AT))
 }
 
-// Whether the record whose value starts at a place is of that PMKID and the same AKM, and its end later than the reading.
+// Whether a record is of that PMKID and the same AKM, and its end later than the reading.
 // Two PMKIDs mostly differ at once, so they are compared first.
-fn matches(file: &[u8], value: usize, pmkid: &[u8], akm: u8, reading: Tu) -> bool
-    requires { value + 25 ≤ length file.now }
-    ensures { result ≡ matches pmkid.now akm reading (cached_at file.now value) }
+fn matches(cached: &[u8], pmkid: &[u8], akm: u8, reading: Tu) -> bool
+    requires { length cached.now ≡ 28 }
+    ensures { result ≡ matches pmkid.now akm reading (cached_of cached.now) }
 {
-    let akm_at = value + PMKID;
-    if !octets::same(&file[value..akm_at], pmkid) {
-        return false;
-    }
-    if file[akm_at] != akm {
-        return false;
-    }
-    let end = end_at(file, value);
-    reading.0 < end.0
+    octets::same(&cached[PMKID_AT..AKM_AT], pmkid)
+        && cached[AKM_AT] == akm
+        && reading < end_of(cached)
 }
 
-// The end of a PMKID's first record that matches, or nothing.
+// The first PMKID of a list that has a record which matches: its number in the list, counted from 0, and that record's end.
 #[derive(Clone, Copy)]
-enum Match {
-    Until(Tu),
-    Nothing,
+pub struct Choice {
+    pub pmkid: usize,
+    pub end: Tu,
 }
 
-fn find(file: &[u8], pmkid: &[u8], akm: u8, reading: Tu) -> Match
-    requires { is_well_formed file.now ≡ true }
-    ensures { result ≡ told (found_of (records_of file.now) pmkid.now akm reading) }
-{
-    let mut at = 0;
-    while at < file.len() {
-        let record = record_at(file, at);
-        let value = record.value;
-        if matches(file, value, pmkid, akm, reading) {
-            return Match::Until(end_at(file, value));
+// A well-formed file, where it lies.
+#[derive(Clone, Copy)]
+pub struct Cache<'a> {
+    pub octets: &'a [u8],
+    pub ghost formed: { is_well_formed octets.now ≡ true },
+}
+
+impl<'a> Cache<'a> {
+    pub fn read(file: &'a [u8]) -> Option<Cache<'a>>
+        ensures formed { is_some result ≡ is_well_formed file.now }
+        ensures same { IfSome result (λ cache. cache.octets.now ≡ file.now) }
+    {
+        if is_well_formed(file) {
+            return Some(Cache { octets: file });
         }
-        at = record.next;
+        None
     }
-    Match::Nothing
-}
 
-// The first PMKID of a list that has such a record, by its number in the list counted from 0, and the record's end; or nothing.
-#[derive(Clone, Copy)]
-pub enum Choice {
-    Chosen { pmkid: usize, end: Tu },
-    Nothing,
-}
+    // The end of a PMKID's first record that matches.
+    fn find(self, pmkid: &[u8], akm: u8, reading: Tu) -> Option<Tu>
+        ensures { result ≡ option_map end_of (found_of (records_of self.entry.octets.now) pmkid.now akm reading) }
+    {
+        self.octets
+            .chunks_exact(RECORD)
+            .find(|cached| matches(cached, pmkid, akm, reading))
+            .map(end_of)
+    }
 
-// `pmkids` is the list's octets, 16 each. What is left over at its end is no PMKID.
-pub fn choose(file: &[u8], pmkids: &[u8], akm: u8, reading: Tu) -> Choice
-    requires { is_well_formed file.now ≡ true }
-    ensures { result ≡ choice_of (records_of file.now) (pieces 16 (length pmkids.now / 16) pmkids.now) akm reading }
-{
-    let count = pmkids.len() / PMKID;
-    let mut k = 0;
-    while k < count {
-        let start = PMKID * k;
-        let after = start + PMKID;
-        let found = find(file, &pmkids[start..after], akm, reading);
-        match found {
-            Match::Until(end) => {
-                return Choice::Chosen { pmkid: k, end: end };
-            }
-            Match::Nothing => {
-                k += 1;
+    // `pmkids` is the list's octets, 16 each. What is left over at its end is no PMKID.
+    pub fn choose(self, pmkids: &[u8], akm: u8, reading: Tu) -> Option<Choice>
+        ensures { result ≡ choice_of (records_of self.entry.octets.now) (pieces 16 (length pmkids.now / 16) pmkids.now) akm reading }
+    {
+        for (k, pmkid) in pmkids.chunks_exact(PMKID).enumerate() {
+            if let Some(end) = self.find(pmkid, akm, reading) {
+                return Some(Choice { pmkid: k, end });
             }
         }
+        None
     }
-    Choice::Nothing
 }

@@ -1,17 +1,15 @@
 // What a third frame gets, as a verdict. No table stands in it.
 #![tactic(auto)]
 
-ghost use Rattle.std.specs.Prelude.{◌^◌, ◌≤◌, ◌≡◌};
-ghost use Rattle.std.specs.Prelude.{Some};
+ghost use Rattle.std.specs.Prelude.{◌^◌, ◌≤◌, ◌≡◌, Some};
 ghost use Rattle.units.specs.Units.{in_tu};
 ghost use Rattle.peers.specs.declared.Phase.TheVariants.{Installed};
 ghost use Rattle.rules.specs.OnePeer.{after, third_frame};
 ghost use Rattle.rules.specs.Told.{Decides};
 
-use frames::third::Third;
+use frames::third;
 use peers::{Peer, Phase};
 use rules::{Answer, Leaves, Verdict};
-use suites::AkmEntry;
 use units::{Seconds, Tu};
 
 // Installed until the lifetime has passed.
@@ -19,8 +17,7 @@ fn installed(lifetime: Seconds, reading: Tu) -> Phase
     requires { reading.0 ≤ 2 ^ 48 }
     ensures { result ≡ Installed (after reading (in_tu lifetime)) }
 {
-    let time = units::in_tu(lifetime);
-    Phase::Installed(Tu(reading.0 + time.0))
+    Phase::Installed(Tu(reading.0 + Tu::from(lifetime).0))
 }
 
 // What a third frame gets of a peer with a live record.
@@ -28,33 +25,21 @@ pub fn answer(peer: Peer, reading: Tu, mic: &[u8], body: &[u8], status: u16) -> 
     requires { reading.0 ≤ 2 ^ 48 }
     ensures { Decides (third_frame reading mic.now body.now status (Some peer)) result }
 {
-    let phase = peer.phase;
-    let Phase::Waiting(_) = phase else {
-        return rules::silent(Answer::NoExchange, Leaves::Same);
+    let Phase::Waiting(_) = peer.phase else {
+        return Verdict::silent(Answer::NoExchange, Leaves::Same);
     };
     if status != 0 {
-        return rules::silent(Answer::StatusNotZero, Leaves::Gone);
+        return Verdict::silent(Answer::StatusNotZero, Leaves::Gone);
     }
-    let agreed = peer.agreed;
-    let entry = suites::akm_of(agreed.akm);
-    let AkmEntry::In(akm) = entry else {
-        return rules::silent(Answer::ThirdRefused, Leaves::Gone);
+    let Some(akm) = suites::akm_of(peer.agreed.akm) else {
+        return Verdict::silent(Answer::ThirdRefused, Leaves::Gone);
     };
-    let third = frames::third::read(body, akm.mic);
-    let Third::Mic(part) = third else {
-        return rules::silent(Answer::ThirdRefused, Leaves::Gone);
+    let Some(part) = third::read(body, akm.mic) else {
+        return Verdict::silent(Answer::ThirdRefused, Leaves::Gone);
     };
-    let start = part.start;
-    let end = part.end;
-    if octets::same(&body[start..end], mic) {
-        let pmkid = peer.pmkid;
-        let lifetime = agreed.lifetime;
-        return Verdict {
-            answer: Answer::Installed,
-            length: 0,
-            leaves: Leaves::Becomes(agreed, installed(lifetime, reading)),
-            pmkid: pmkid,
-        };
+    if octets::same(part.of(body), mic) {
+        let phase = installed(peer.agreed.lifetime, reading);
+        return Verdict::silent(Answer::Installed, Leaves::Becomes(Peer { phase, ..peer }));
     }
-    rules::silent(Answer::ThirdRefused, Leaves::Gone)
+    Verdict::silent(Answer::ThirdRefused, Leaves::Gone)
 }

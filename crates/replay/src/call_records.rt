@@ -1,15 +1,16 @@
 // The call records: each makes its call and prints its line.
 ghost use Rattle.std.specs.Prelude.{◌≤◌, length};
 
-use crate::setup::{ANY, LONGEST_BUFFER, LONGEST_LENT, Setup};
-use crate::{lines, text};
+use crate::lines;
+use crate::setup::{LONGEST_BUFFER, Setup};
+use crate::stop::Stop;
+use octets::Number;
 use peers::Table;
-use rules::{Answer, Brought};
-use std::io;
+use rules::{Answer, Brought, Incoming};
 use std::io::Write;
 use units::Tu;
 
-const LONGEST_BODY: usize = 4096;
+pub const LONGEST_BODY: usize = 4096;
 
 // A clock reading and an address, at the front of a value.
 const WHO: usize = 14;
@@ -17,224 +18,127 @@ const WHO: usize = 14;
 fn reading_of(value: &[u8]) -> Tu
     requires { 14 ≤ length value.now }
 {
-    Tu(octets::le8(value, 0))
+    Tu(u64::read_le(value, 0))
 }
 
 fn address_of(value: &[u8]) -> [u8; 6]
     requires { 14 ≤ length value.now }
 {
-    [
-        value[8], value[9], value[10], value[11], value[12], value[13],
-    ]
+    value[8..14].try_into().unwrap()
 }
 
-fn one_if_installed(answer: Answer) -> u64 {
-    if let Answer::Installed = answer {
-        return 1;
-    }
-    0
-}
-
-// What a call record comes to: the table, whether the record is as its row allows, and how many keys were installed.
-#[derive(Clone, Copy)]
-pub struct Called {
-    pub table: Table,
-    pub fits: bool,
-    pub installed: u64,
-}
-
-fn done(t: Table) -> Called {
-    Called {
-        table: t,
-        fits: true,
-        installed: 0,
-    }
-}
-
-fn refuse(t: Table) -> Called {
-    Called {
-        table: t,
-        fits: false,
-        installed: 0,
-    }
-}
-
-fn hear(
+// A receive, with what is in force; whether a key was installed.
+fn receive(
     out: &mut impl Write,
-    t: Table,
-    brought: Brought,
-    cache: &[u8],
-    key: &[u8],
-    mic: &[u8],
-    body: &[u8],
-    reply: &mut [u8],
-) -> io::Result<Called> {
-    let received = platform::receive(t, brought, cache, key, mic, body, reply);
-    let table = received.table;
-    let answer = received.answer;
-    let length = received.length;
-    lines::put_received(out, answer, &reply[0..length])?;
-    Ok(Called {
-        table: table,
-        fits: true,
-        installed: one_if_installed(answer),
+    table: &mut Table,
+    setup: &Setup,
+    value: &[u8],
+    buffer: &mut [u8; LONGEST_BODY],
+) -> Result<bool, Stop> {
+    if value.len() < WHO || value.len() > WHO + LONGEST_BODY {
+        return Err(Stop::Unfit);
+    }
+    let call = Incoming {
+        brought: Brought {
+            settings: setup.settings,
+            reading: reading_of(value),
+            address: address_of(value),
+            lent: setup.lent,
+        },
+        cache: setup.cache.as_slice(),
+        key: setup.key.as_slice(),
+        mic: setup.mic.as_slice(),
+        body: &value[WHO..],
+    };
+    let reply = &mut buffer[..setup.room];
+    let told = platform::receive_in(table, call, reply);
+    lines::put_received(out, told.answer, &reply[..told.length])?;
+    Ok(match told.answer {
+        Answer::Installed => true,
+        _ => false,
     })
 }
 
-fn receive_with(
-    out: &mut impl Write,
-    t: Table,
-    s: Setup,
-    value: &[u8],
-    cache: &[u8],
-    key: &[u8],
-    mic: &[u8],
-    reply: &mut [u8],
-) -> io::Result<Called> {
-    if value.len() < WHO {
-        return Ok(refuse(t));
-    }
-    if value.len() > WHO + LONGEST_BODY {
-        return Ok(refuse(t));
-    }
-    let settings = s.settings;
-    let lent = s.lent;
-    let brought = Brought {
-        settings: settings,
-        reading: reading_of(value),
-        address: address_of(value),
-        lent: lent,
-    };
-    hear(out, t, brought, cache, key, mic, &value[WHO..], reply)
-}
-
-// A receive, with what is in force of each buffer.
-fn receive(
-    out: &mut impl Write,
-    t: Table,
-    s: Setup,
-    value: &[u8],
-    cache: &[u8],
-    key: &[u8],
-    mic: &[u8],
-    reply: &mut [u8],
-) -> io::Result<Called>
-    requires { (65536 ≤ length cache.now) × (255 ≤ length key.now) × (255 ≤ length mic.now) × (65536 ≤ length reply.old) }
-{
-    let file = s.cache as usize;
-    let own = s.key as usize;
-    let lent = s.mic as usize;
-    let room = s.room as usize;
-    receive_with(
-        out,
-        t,
-        s,
-        value,
-        &cache[0..file],
-        &key[0..own],
-        &mic[0..lent],
-        &mut reply[0..room],
-    )
-}
-
-fn look_up(out: &mut impl Write, t: Table, value: &[u8]) -> io::Result<Called> {
+fn look_up(out: &mut impl Write, table: &Table, value: &[u8]) -> Result<(), Stop> {
     if value.len() != WHO {
-        return Ok(refuse(t));
+        return Err(Stop::Unfit);
     }
-    let looked = platform::look_up(t, address_of(value), reading_of(value));
-    let answer = looked.answer;
-    let peer = looked.peer;
-    lines::put_looked_up(out, answer, peer)?;
-    Ok(done(t))
+    let looked = platform::look_up(*table, address_of(value), reading_of(value));
+    lines::put_looked_up(out, looked.answer, looked.peer)?;
+    Ok(())
 }
 
-fn remove(out: &mut impl Write, t: Table, value: &[u8]) -> io::Result<Called> {
+fn remove(out: &mut impl Write, table: &mut Table, value: &[u8]) -> Result<(), Stop> {
     if value.len() != WHO {
-        return Ok(refuse(t));
+        return Err(Stop::Unfit);
     }
-    let removed = platform::remove(t, address_of(value), reading_of(value));
-    let answer = removed.answer;
-    let after = removed.table;
+    let answer = platform::remove_in(table, &address_of(value), reading_of(value));
     lines::put_removed(out, answer)?;
-    Ok(done(after))
+    Ok(())
 }
 
-fn show_key(out: &mut impl Write, t: Table, body: &[u8]) -> io::Result<Called> {
+fn show_key(out: &mut impl Write, body: &[u8]) -> Result<(), Stop> {
     if body.len() > LONGEST_BODY {
-        return Ok(refuse(t));
+        return Err(Stop::Unfit);
     }
-    let key = chip::show_key(body);
-    let start = key.start;
-    let end = key.end;
-    lines::put_key(out, &body[start..end])?;
-    Ok(done(t))
+    lines::put_key(out, chip::show_key(body).of(body))?;
+    Ok(())
 }
 
-fn zero_mic(out: &mut impl Write, t: Table, value: &[u8], second: &mut [u8]) -> io::Result<Called>
-    requires { 65536 ≤ length second.old }
-{
-    if value.len() < 2 {
-        return Ok(refuse(t));
-    }
-    if value.len() > 2 + LONGEST_BODY {
-        return Ok(refuse(t));
-    }
-    let room = octets::le2(value, 0);
-    if room > LONGEST_BUFFER {
-        return Ok(refuse(t));
-    }
-    let n = room as usize;
-    let body_length = value.len() - 2;
-    let answer = chip::zero_mic(&value[2..], &mut second[0..n]);
-    lines::put_mic(out, b"zero ", answer, &second[0..body_length])?;
-    Ok(done(t))
-}
-
-fn set_mic(
+fn zero_mic(
     out: &mut impl Write,
-    t: Table,
-    lent: u8,
-    body: &mut [u8],
-    mic: &[u8],
-) -> io::Result<Called>
-    requires { 255 ≤ length mic.now }
-{
+    value: &[u8],
+    buffer: &mut [u8; LONGEST_BODY],
+) -> Result<(), Stop> {
+    if value.len() < 2 || value.len() > 2 + LONGEST_BODY {
+        return Err(Stop::Unfit);
+    }
+    let room = u16::read_le(value, 0) as usize;
+    if room > LONGEST_BUFFER {
+        return Err(Stop::Unfit);
+    }
+    let body = &value[2..];
+    let answer = chip::zero_mic(body, &mut buffer[..room]);
+    lines::put_mic(out, b"zero ", answer, &buffer[..body.len()])?;
+    Ok(())
+}
+
+fn set_mic(out: &mut impl Write, body: &mut [u8], mic: &[u8]) -> Result<(), Stop> {
     if body.len() > LONGEST_BODY {
-        return Ok(refuse(t));
+        return Err(Stop::Unfit);
     }
-    let n = lent as usize;
-    let answer = chip::set_mic(body, &mic[0..n]);
+    let answer = chip::set_mic(body, mic);
     lines::put_mic(out, b"set ", answer, body)?;
-    Ok(done(t))
+    Ok(())
 }
 
-fn empty(out: &mut impl Write, t: Table, value: &[u8]) -> io::Result<Called> {
-    if value.len() != 0 {
-        return Ok(refuse(t));
+fn empty(out: &mut impl Write, table: &mut Table, value: &[u8]) -> Result<(), Stop> {
+    if !value.is_empty() {
+        return Err(Stop::Unfit);
     }
-    text::put(out, b"empty\n")?;
-    Ok(done(platform::empty()))
+    *table = platform::empty();
+    out.write_all(b"empty\n")?;
+    Ok(())
 }
 
+// Whether a key was installed.
 pub fn call(
     out: &mut impl Write,
-    t: Table,
-    s: Setup,
+    table: &mut Table,
+    setup: &Setup,
     tag: u8,
     value: &mut [u8],
-    cache: &[u8; ANY],
-    key: &[u8; LONGEST_LENT],
-    mic: &[u8; LONGEST_LENT],
-    buffer: &mut [u8; ANY],
-) -> io::Result<Called> {
+    buffer: &mut [u8; LONGEST_BODY],
+) -> Result<bool, Stop> {
     match tag {
-        16 => receive(out, t, s, value, cache, key, mic, buffer),
-        17 => look_up(out, t, value),
-        18 => remove(out, t, value),
-        19 => show_key(out, t, value),
-        20 => zero_mic(out, t, value, buffer),
-        21 => set_mic(out, t, s.mic, value, mic),
-        22 => empty(out, t, value),
-        _ => Ok(refuse(t)),
+        16 => return receive(out, table, setup, value, buffer),
+        17 => look_up(out, table, value)?,
+        18 => remove(out, table, value)?,
+        19 => show_key(out, value)?,
+        20 => zero_mic(out, value, buffer)?,
+        21 => set_mic(out, value, setup.mic.as_slice())?,
+        22 => empty(out, table, value)?,
+        _ => return Err(Stop::Unfit),
     }
+    Ok(false)
 }

@@ -1,8 +1,7 @@
-use Rattle.std.proofs.Common.{◌-◌, length}
+use Rattle.std.proofs.Common.{◌≡◌}
 use Rattle.replay.proofs.text.put_octets.Given as goal
 
-abbrev pub invariant-loop-at : goal.invariant-loop-at
-invariant-loop-at g l = Unit {0}
-
-abbrev pub decreases-loop-at : goal.decreases-loop-at
-decreases-loop-at g l = length l.s - l.at
+abbrev pub invariant-loop-octets : goal.invariant-loop-octets
+invariant-loop-octets g l =
+    (goal.iterator-loop-octets g).can_next l.octets-iterator ×
+    (goal.iterator-loop-octets g).is_finite l.octets-iterator × (l.octets-iterator.size ≡ 256)

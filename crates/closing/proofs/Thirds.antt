@@ -9,9 +9,8 @@ use Rattle.octets.specs.Equality.{same_octets}
 use Rattle.units.specs.declared.Tu.{Tu}
 use Rattle.elements.specs.declared.Part.{Part}
 use Rattle.suites.specs.declared.Akm.{Akm}
-use Rattle.suites.specs.declared.AkmEntry.{AkmEntry}
 use Rattle.suites.specs.Tables.{akm_of}
-use Rattle.frames.specs.Contents.{content}
+use Rattle.elements.specs.Lies.{content}
 use Rattle.frames.specs.Third.{third_of}
 use Rattle.peers.specs.declared.Peer.{Peer}
 use Rattle.peers.specs.declared.Phase.TheVariants.{Waiting, Installed}
@@ -33,10 +32,10 @@ module _ (reading : Tu) (mic body : List ℕ) (status : ℕ) (p : Peer) where
       by_akm : outcome ≡ third_akm reading mic body p (akm_of p.agreed.akm)
       by_akm = rw (waits, eq-eqb status 0 zero)
 
-      pub third_unlisted : akm_of p.agreed.akm ≡ AkmEntry.NotInTable → lost Answer.ThirdRefused ≡ outcome
+      pub third_unlisted : akm_of p.agreed.akm ≡ None → lost Answer.ThirdRefused ≡ outcome
       third_unlisted h = sym (by_akm ∙ ap (third_akm reading mic body p) h)
 
-      module _ {akm : Akm} (listed : akm_of p.agreed.akm ≡ AkmEntry.In akm) where
+      module _ {akm : Akm} (listed : akm_of p.agreed.akm ≡ Some akm) where
         by_mic : outcome ≡ third_mic reading mic body p (third_of body akm.mic)
         by_mic = by_akm ∙ ap (third_akm reading mic body p) listed
 

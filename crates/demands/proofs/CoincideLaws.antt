@@ -2,14 +2,13 @@
 use mathlib.Core.Path.{◌≡◌, refl, sym, ap, ap₂, subst, ◌∙◌}
 use mathlib.Core.Bool.{Bool, true, false, not, true≢false}
 use mathlib.Core.List.{List, ◌∷◌, ◌++◌}
-use Rattle.std.specs.Prelude.{Option}
+use Rattle.std.specs.Prelude.{Option, if◌then◌else◌, is_none}
 use Rattle.octets.proofs.Options.{some-injective}
 use Prim.Native.Nat.{ℕ, ◌+◌, ◌≤◌}
 use native.Mathlib.Omega.{arith}
 use borrow.Author.Tests.{leb-true}
 use lib.Dec.{eqb, leb}
 use lib.ListN.{length, drop}
-use Rattle.std.specs.Prelude.{if◌then◌else◌}
 use Rattle.octets.specs.Equality.{same_octets}
 use Rattle.octets.proofs.Logic.{both}
 use Rattle.units.specs.declared.Tu.{Tu}
@@ -20,16 +19,15 @@ use Rattle.peers.specs.declared.Peer.{Peer}
 use Rattle.peers.specs.declared.Table.{Table}
 use Rattle.peers.specs.Alike.{Alike}
 use Rattle.peers.specs.Promises.{Nobody}
-use Rattle.peers.specs.View.{absent, other, shows, full}
+use Rattle.peers.specs.View.{other, shows, full}
 use Rattle.peers.proofs.Laws.{alike_later, alike_full}
 use Rattle.rules.specs.declared.Answer.{Answer}
-use Rattle.rules.specs.OnePeer.{Call, answer_number, is_early, Left, same, gone, becomes, Outcome, unchanged, clock_fits, is_group_address, receive_of, look_up_of}
+use Rattle.rules.specs.OnePeer.{Call, answer_number, is_early, Left, same, gone, becomes, Outcome, unchanged, clock_fits, is_group_address, receive_of, look_up_of, removal_number, look_number}
 use Rattle.rules.proofs.Checks.{checks_clock}
 use Rattle.rules.specs.declared.LookUp.{LookUp}
 use Rattle.platform.specs.declared.LookedUp.{LookedUp}
 use Rattle.rules.specs.declared.Removal.{Removal}
 use Rattle.platform.specs.declared.Removed.{Removed}
-use Rattle.rules.specs.OnePeer.{removal_number, look_number}
 use Rattle.platform.specs.Promises.{shown_after, counted_after, Settles, Dates, ruled, Receives, left_by_removal, Removes, IsSeen, LooksUp}
 use Rattle.demands.specs.Coincide.{Match, Reception, SameReception, SameRemoval, MicOutcome, OutcomesCoincide}
 
@@ -173,7 +171,7 @@ module _ (t u : Table) (w : Match t u) (address : List ℕ) (n : Tu) where
   }
     where
       same_answer : x.answer ≡ y.answer
-      same_answer = by_number removal_number removal_by removal_numbered (a.number ∙ number_same (λ own. if is_group_address address then 4 else (if absent own then 17 else 16)) ∙ sym b.number)
+      same_answer = by_number removal_number removal_by removal_numbered (a.number ∙ number_same (λ own. if is_group_address address then 4 else (if is_none own then 17 else 16)) ∙ sym b.number)
 
       fits : (c : Bool) → clock_fits t.latest n ≡ c → is_early (removal_number x.answer) ≡ false → t.latest.0 ≤ n.0
       fits true c e = fits_later t.latest n c
@@ -187,7 +185,7 @@ module _ (t u : Table) (w : Match t u) (address : List ℕ) (n : Tu) where
       (peers x.answer a.number a.shown (subst (IsSeen (shows u n address) y.peer) (sym same_answer) b.shown))
     where
       same_answer : x.answer ≡ y.answer
-      same_answer = by_number look_number look_by look_numbered (a.number ∙ number_same (λ own. if is_group_address address then 4 else (if absent own then 17 else 18)) ∙ sym b.number)
+      same_answer = by_number look_number look_by look_numbered (a.number ∙ number_same (λ own. if is_group_address address then 4 else (if is_none own then 17 else 18)) ∙ sym b.number)
 
       fits : (c : Bool) → clock_fits t.latest n ≡ c → 18 ≡ look_up_of t.latest n address (shows t n address) → shows t n address ≡ shows u n address
       fits true c e = shown_same c

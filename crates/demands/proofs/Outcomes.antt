@@ -1,26 +1,23 @@
 -- What a receive can leave of a record: the same; none, of a waiting one; a waiting one; or that one, installed.
 use mathlib.Core.Path.{◌≡◌, refl, sym, ap, ◌∙◌}
 use mathlib.Core.Bool.{Bool, true, false, not}
-use Rattle.std.specs.Prelude.{Option, None, Some}
+use Rattle.std.specs.Prelude.{Option, None, Some, Ok, Err, if◌then◌else◌}
 use Prim.Native.Nat.{ℕ}
 use native.Mathlib.Omega.{arith}
 use borrow.Author.Tests.{not-false}
 use lib.Dec.{eqb}
 use lib.ListN.{length}
-use Rattle.std.specs.Prelude.{if◌then◌else◌}
 use Rattle.octets.specs.Equality.{same_octets}
 use Rattle.octets.proofs.Choice.{either_way}
 use Rattle.units.specs.declared.Tu.{Tu}
-use Rattle.elements.specs.declared.Opened.{Opened}
 use Rattle.elements.specs.declared.Part.{Part}
 use Rattle.elements.specs.Body.{body_of}
-use Rattle.suites.specs.declared.AkmEntry.{AkmEntry}
 use Rattle.suites.specs.Tables.{akm_of, is_key_of}
-use Rattle.frames.specs.Contents.{content}
+use Rattle.elements.specs.Lies.{content}
 use Rattle.frames.specs.Third.{third_of}
 use Rattle.peers.specs.declared.Peer.{Peer}
 use Rattle.rules.specs.declared.Answer.{Answer}
-use Rattle.rules.specs.OnePeer.{Call, same, gone, becomes, Outcome, answer_number, gone_if, is_waiting, is_installed, waits, terms_of, Step, refuse, pass, Passed, steps, waiting_peer, first_outcome, first_frame, installed_peer, third_mic, third_akm, third_frame, is_group_address, ◌or_else◌, checks, on_body, receive_of}
+use Rattle.rules.specs.OnePeer.{Call, same, gone, becomes, Outcome, answer_number, gone_if, is_waiting, is_installed, waits, terms_of, Step, Passed, steps, waiting_peer, first_outcome, first_frame, installed_peer, third_mic, third_akm, third_frame, is_group_address, ◌or_else◌, checks, on_body, receive_of}
 use Rattle.rules.proofs.Checks.{checks_pass}
 
 pub data Kind (call : Call) (own : Option Peer) (o : Outcome) : Type 0 where
@@ -47,12 +44,12 @@ module _ (call : Call) where
 
   module _ (g : is_group_address call.brought.address ≡ false) (full : Bool) (algorithm : ℕ) (own : Option Peer) where
     first_steps : is_installed own ≡ false → (s : Step Passed) → Kind call own (first_outcome call.brought call.key algorithm (waits own) s)
-    first_steps i (refuse why) = go (terms_of why).spares refl
+    first_steps i (Err why) = go (terms_of why).spares refl
       where
         go : (b : Bool) {o : Outcome} → o.leaves ≡ (if b then same else gone_if (waits own)) → Kind call own o
         go true e = keeps e
         go false e = goes own e
-    first_steps i (pass passed) = either_way (Kind call own) (is_key_of passed.group call.key) (λ _. begins passed i g refl refl) (λ _. keeps refl)
+    first_steps i (Ok passed) = either_way (Kind call own) (is_key_of passed.group call.key) (λ _. begins passed i g refl refl) (λ _. keeps refl)
 
     first_kind : Kind call own (first_frame call.brought call.cache call.key call.body algorithm full own)
     first_kind = either_way (Kind call own) (is_installed own) (λ _. keeps refl) (λ i. first_steps i (steps call.brought call.cache call.body full))
@@ -63,9 +60,9 @@ module _ (call : Call) where
         either_way (Kind call (Some p)) (same_octets (content call.body part) call.mic) (λ _. installs p refl w refl refl) (λ _. ends (not_installed (Some p) w) refl)
     kind_of_mic None = ends (not_installed (Some p) w) refl
 
-    kind_of_akm : (entry : AkmEntry) → Kind call (Some p) (third_akm call.brought.reading call.mic call.body p entry)
-    kind_of_akm (AkmEntry.In akm) = kind_of_mic (third_of call.body akm.mic)
-    kind_of_akm AkmEntry.NotInTable = ends (not_installed (Some p) w) refl
+    kind_of_akm : (entry : Option Akm) → Kind call (Some p) (third_akm call.brought.reading call.mic call.body p entry)
+    kind_of_akm (Some akm) = kind_of_mic (third_of call.body akm.mic)
+    kind_of_akm None = ends (not_installed (Some p) w) refl
 
   third_kind : (status : ℕ) (own : Option Peer) → Kind call own (third_frame call.brought.reading call.mic call.body status own)
   third_kind status None = keeps refl
@@ -75,12 +72,12 @@ module _ (call : Call) where
       either_way (Kind call (Some p)) (not (eqb status 0)) (λ _. ends (not_installed (Some p) w) refl) λ _.
       kind_of_akm p w (akm_of p.agreed.akm)
 
-  body_kind : is_group_address call.brought.address ≡ false → (opened : Opened) (full : Bool) (own : Option Peer) → Kind call own (on_body call opened full own)
-  body_kind g (Opened.Body header) full own =
+  body_kind : is_group_address call.brought.address ≡ false → (opened : Option Header) (full : Bool) (own : Option Peer) → Kind call own (on_body call opened full own)
+  body_kind g (Some header) full own =
       either_way (Kind call own) (not (eqb header.algorithm 7)) (λ _. goes own refl) λ _.
       either_way (Kind call own) (eqb header.transaction 1) (λ _. first_kind g full header.algorithm own) λ _.
       either_way (Kind call own) (eqb header.transaction 3) (λ _. third_kind header.status own) λ _. keeps refl
-  body_kind g Opened.NoBody full own = keeps refl
+  body_kind g None full own = keeps refl
 
   pub kind_of : (latest : Tu) (full : Bool) (own : Option Peer) → Kind call own (receive_of latest full own call)
   unfolding receive_of

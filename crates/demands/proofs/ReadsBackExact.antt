@@ -2,26 +2,23 @@
 use mathlib.Core.Path.{◌≡◌, refl, sym, ap, ◌∙◌}
 use mathlib.Core.Bool.{Bool, true, false, ◌||◌, not, true≢false}
 use mathlib.Core.List.{[]}
-use Rattle.std.specs.Prelude.{Option, None, Some}
+use Rattle.std.specs.Prelude.{Option, None, Some, Ok, Err, if◌then◌else◌}
 use Rattle.octets.proofs.Options.{some-injective}
 use Prim.Native.Nat.{ℕ}
 use native.Mathlib.Omega.{arith}
 use lib.Dec.{eqb}
 use lib.ListN.{length}
 use borrow.Author.Tests.{eqb-true, not-false}
-use Rattle.std.specs.Prelude.{if◌then◌else◌}
 use Rattle.octets.specs.Equality.{same_octets}
 use Rattle.octets.proofs.Choice.{either_way}
 use Rattle.octets.proofs.Equality.{same_refl, same_eq}
 use Rattle.units.specs.declared.Tu.{Tu}
 use Rattle.elements.specs.declared.Header.{Header}
-use Rattle.elements.specs.declared.Opened.{Opened}
 use Rattle.elements.specs.declared.Part.{Part}
 use Rattle.elements.specs.Body.{body_of}
 use Rattle.suites.specs.declared.Akm.{Akm}
-use Rattle.suites.specs.declared.AkmEntry.{AkmEntry}
 use Rattle.suites.specs.Tables.{akm_of, is_key_of}
-use Rattle.frames.specs.Contents.{content}
+use Rattle.elements.specs.Lies.{content}
 use Rattle.frames.specs.Third.{third_of}
 use Rattle.peers.specs.declared.Peer.{Peer}
 use Rattle.peers.specs.declared.Phase.{Phase}
@@ -30,7 +27,7 @@ use Rattle.peers.specs.declared.Table.{Table}
 use Rattle.peers.specs.View.{shows, full}
 use Rattle.rules.specs.declared.Answer.{Answer}
 use Rattle.rules.specs.declared.Refusal.{Refusal}
-use Rattle.rules.specs.OnePeer.{Call, becomes, Outcome, answer_number, is_early, is_installed, is_waiting, waits, checks, ◌or_else◌, Step, refuse, pass, Passed, acceptance, refusal, first_outcome, first_frame, installed_peer, third_mic, third_akm, third_frame, on_body, receive_of}
+use Rattle.rules.specs.OnePeer.{Call, becomes, Outcome, answer_number, is_early, is_installed, is_waiting, waits, checks, ◌or_else◌, Step, Passed, acceptance, refusal, first_outcome, first_frame, installed_peer, third_mic, third_akm, third_frame, on_body, receive_of}
 use Rattle.rules.proofs.Checks.{checks_early}
 use Rattle.closing.proofs.Thirds.{third_alike}
 use Rattle.platform.specs.Promises.{ruled}
@@ -117,13 +114,13 @@ module _ (t : Table) (call : Call) where
 
   module _ (frame : FirstFrame t call) (algorithm : ℕ) where
     steps_say : (s : Step Passed) → stepped t call ≡ s → Says (first_outcome call.brought call.key algorithm (waits own) s)
-    steps_say (refuse why) e = record {
+    steps_say (Err why) e = record {
       accepted = λ n. absurd (omega (arith, n));
       own_key = λ n. absurd (omega (arith, n));
-      refused = λ other n. record { frame = frame; refuses = e ∙ ap refuse (same_why n) };
+      refused = λ other n. record { frame = frame; refuses = e ∙ ap Err (same_why n) };
       installs = λ n. absurd (omega (arith, n));
     }
-    steps_say (pass passed) e =
+    steps_say (Ok passed) e =
         either_way Says (is_key_of passed.group call.key)
         (λ k. record {
           accepted = λ n. record { frame = frame; passed = passed; passes = e; key = k };
@@ -139,14 +136,14 @@ module _ (t : Table) (call : Call) where
         })
 
   module _ (passed : checked ≡ None) where
-    first_says : {status : ℕ} (algorithm : ℕ) → body_of call.body ≡ Opened.Body (record { algorithm = 7; transaction = 1; status = status })
+    first_says : {status : ℕ} (algorithm : ℕ) → body_of call.body ≡ Some (record { algorithm = 7; transaction = 1; status = status })
         → Says (first_frame call.brought call.cache call.key call.body algorithm crowded own)
     first_says {status} algorithm opens =
         either_way Says (is_installed own) (λ i. nothing refl)
         (λ i. steps_say (record { checked = passed; status = status; opens = opens; free = i }) algorithm (stepped t call) refl)
 
     third_says : (status : ℕ) (peer : Option Peer) → own ≡ peer
-        → (status ≡ 0 → body_of call.body ≡ Opened.Body (record { algorithm = 7; transaction = 3; status = 0 }))
+        → (status ≡ 0 → body_of call.body ≡ Some (record { algorithm = 7; transaction = 3; status = 0 }))
         → Says (third_frame call.brought.reading call.mic call.body status peer)
     third_says status None shown opens = nothing refl
     third_says status (Some p) shown opens =
@@ -154,7 +151,7 @@ module _ (t : Table) (call : Call) where
         either_way Says (not (eqb status 0)) (λ z. nothing refl) λ z.
         by_akm (waiting p.phase (not-false (is_waiting p.phase) i)) (eqb-true status 0 (not-false (eqb status 0) z)) (akm_of p.agreed.akm) refl
       where
-        by_mic : Waits p.phase → status ≡ 0 → (akm : Akm) → akm_of p.agreed.akm ≡ AkmEntry.In akm
+        by_mic : Waits p.phase → status ≡ 0 → (akm : Akm) → akm_of p.agreed.akm ≡ Some akm
             → (third : Option Part) → third_of call.body akm.mic ≡ third → Says (third_mic call.brought.reading call.mic call.body p third)
         by_mic w z akm a (Some part) r =
             either_way Says (same_octets (content call.body part) call.mic)
@@ -179,19 +176,19 @@ module _ (t : Table) (call : Call) where
             (λ m. nothing refl)
         by_mic w z akm a None r = nothing refl
 
-        by_akm : Waits p.phase → status ≡ 0 → (entry : AkmEntry) → akm_of p.agreed.akm ≡ entry
+        by_akm : Waits p.phase → status ≡ 0 → (entry : Option Akm) → akm_of p.agreed.akm ≡ entry
             → Says (third_akm call.brought.reading call.mic call.body p entry)
-        by_akm w z (AkmEntry.In akm) a = by_mic w z akm a (third_of call.body akm.mic) refl
-        by_akm w z AkmEntry.NotInTable a = nothing refl
+        by_akm w z (Some akm) a = by_mic w z akm a (third_of call.body akm.mic) refl
+        by_akm w z None a = nothing refl
 
     -- a header by its numbers
-    headed : {header : Header} {transaction status : ℕ} → body_of call.body ≡ Opened.Body header → header.algorithm ≡ 7 → header.transaction ≡ transaction
-        → header.status ≡ status → body_of call.body ≡ Opened.Body (record { algorithm = 7; transaction = transaction; status = status })
+    headed : {header : Header} {transaction status : ℕ} → body_of call.body ≡ Some header → header.algorithm ≡ 7 → header.transaction ≡ transaction
+        → header.status ≡ status → body_of call.body ≡ Some (record { algorithm = 7; transaction = transaction; status = status })
     headed e a b c = rw (← a, ← b, ← c) e
 
-    body_says : (o : Opened) → body_of call.body ≡ o → Says (on_body call o crowded own)
-    body_says Opened.NoBody e = nothing refl
-    body_says (Opened.Body header) e =
+    body_says : (o : Option Header) → body_of call.body ≡ o → Says (on_body call o crowded own)
+    body_says None e = nothing refl
+    body_says (Some header) e =
         either_way Says (not (eqb header.algorithm 7)) (λ _. nothing refl) λ a.
         let seven = eqb-true header.algorithm 7 (not-false (eqb header.algorithm 7) a) in
         either_way Says (eqb header.transaction 1)
@@ -216,7 +213,7 @@ module _ (t : Table) (call : Call) where
   ruled_body c = rw c
 
   pub ruled_first : FirstFrame t call → ruled t call ≡ first_outcome call.brought call.key 7 (waits own) (stepped t call)
-  ruled_first f = ruled_body f.checked ∙ ap (λ (o : Opened). on_body call o crowded own) f.opens ∙ rw f.free
+  ruled_first f = ruled_body f.checked ∙ ap (λ (o : Option Header). on_body call o crowded own) f.opens ∙ rw f.free
 
   pub ruled_accepted : {own_key : Bool} (a : AcceptsFirst own_key t call) → ruled t call ≡ acceptance call.brought call.key 7 a.passed
   ruled_accepted a = ruled_first a.frame ∙ ap (first_outcome call.brought call.key 7 (waits own)) a.passes
@@ -227,7 +224,7 @@ module _ (t : Table) (call : Call) where
   ruled_installed : (a : AcceptsThird t call) → ruled t call ≡ record { answer = Answer.Installed; reply = []; leaves = becomes (installed_peer call.brought.reading a.peer) }
   ruled_installed a =
       ruled_body a.checked
-      ∙ ap (λ (o : Opened). on_body call o crowded own) a.opens
+      ∙ ap (λ (o : Option Header). on_body call o crowded own) a.opens
       ∙ ap (third_frame call.brought.reading call.mic call.body 0) a.shown
       ∙ sym (third_alike call.brought.reading call.mic call.body 0 a.peer a.waiting refl a.listed a.reads (rw a.mic (same_refl call.mic)))
 

@@ -10,12 +10,9 @@ use lib.ListN.{length}
 use borrow.Author.Tests.{ltb-true}
 use Rattle.units.specs.declared.Seconds.{Seconds}
 use Rattle.suites.specs.declared.Group.{Group}
-use Rattle.suites.specs.declared.GroupEntry.{GroupEntry}
 use Rattle.suites.specs.declared.Suite.TheVariants.{Ours}
 use Rattle.suites.specs.Tables.{groups, group_of}
 use Rattle.suites.proofs.Lookup.{looked_up}
-use Rattle.rsne.specs.declared.Only.TheVariants.{One as Just}
-use Rattle.frames.specs.declared.contents.Lifetime.{Lifetime}
 use Rattle.frames.specs.declared.first.Facts.{Facts}
 use Rattle.frames.proofs.first.Laws.{Asks, first_asks}
 use Rattle.rules.specs.declared.Brought.{Brought}
@@ -29,10 +26,10 @@ record GroupIs (number : ℕ) (group : Group) : Type 0 where
   same_group : group.number ≡ number
   two_octets : group.number < 2 ^ 16
 
-group_is : (number : ℕ) {group : Group} → group_of number ≡ GroupEntry.In group → GroupIs number group
+group_is : (number : ℕ) {group : Group} → group_of number ≡ Some group → GroupIs number group
 unfolding group_of
 group_is number {group} q =
-    let p = looked_up (λ (x : Group). x.number) groups number GroupEntry.In GroupEntry.NotInTable (λ x y q. cc) (λ x q. cc) (λ x. ltb x.number (2 ^ 16)) refl group q in
+    let p = looked_up (λ (x : Group). x.number) groups number Some None (λ x y q. cc) (λ x q. cc) (λ x. ltb x.number (2 ^ 16)) refl group q in
     record { same_group = p.0; two_octets = ltb-true group.number (2 ^ 16) p.1 }
 
 -- a PMKID or none is listed
@@ -50,17 +47,17 @@ record Tells (l : Seconds) : Type 0 where
   some_second : 0 < l.0
   four_octets : l.0 < 2 ^ 32
 
-lifetime_tells : (settings : Settings) (l : Lifetime) → settings_fit settings ≡ true → Asks l → Tells (lifetime_of settings.lifetime l)
+lifetime_tells : (settings : Settings) (l : Option Seconds) → settings_fit settings ≡ true → Asks l → Tells (lifetime_of settings.lifetime l)
 lifetime_tells settings l fit a = go l a
   where
-    go : (l : Lifetime) → Asks l → Tells (lifetime_of settings.lifetime l)
-    go (Lifetime.Asked s) a = let r = settings_range settings fit in record { some_second = omega (arith, r); four_octets = omega (arith, r) }
-    go Lifetime.Unasked a = let r = settings_range settings fit in record { some_second = r.some_second; four_octets = omega (arith, r) }
+    go : (l : Option Seconds) → Asks l → Tells (lifetime_of settings.lifetime l)
+    go (Some s) a = let r = settings_range settings fit in record { some_second = omega (arith, r); four_octets = omega (arith, r) }
+    go None a = let r = settings_range settings fit in record { some_second = r.some_second; four_octets = omega (arith, r) }
 
 -- what the second frame says of the first
 pub record Chose (brought : Brought) (passed : Passed) (first : Facts) : Type 0 where
-  pub cipher : first.rsne.pairwise ≡ Just (Ours passed.agreed.cipher)
-  pub akm : first.rsne.akm ≡ Just (Ours passed.agreed.akm)
+  pub cipher : first.rsne.pairwise ≡ Some (Ours passed.agreed.cipher)
+  pub akm : first.rsne.akm ≡ Some (Ours passed.agreed.akm)
   pub group : passed.group.number ≡ first.group
   pub group_fits : passed.group.number < 2 ^ 16
   pub pmkids : ℕ

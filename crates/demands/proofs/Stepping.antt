@@ -3,24 +3,22 @@ use Prim.Native.Nat.{ℕ, ◌≤◌}
 use mathlib.Core.Path.{◌≡◌, refl, sym, ap, ap₂, ◌∙◌}
 use mathlib.Core.Bool.{Bool, true, false}
 use mathlib.Core.List.{List}
-use Rattle.std.specs.Prelude.{Option, None, Some}
+use Rattle.std.specs.Prelude.{Option, None, Some, if◌then◌else◌}
 use native.Mathlib.Omega.{arith}
 use lib.Dec.{eqb}
 use lib.ListN.{length}
-use Rattle.std.specs.Prelude.{if◌then◌else◌}
 use Rattle.units.specs.declared.Tu.{Tu}
 use Rattle.units.specs.Units.{clock_limit}
 use Rattle.peers.specs.declared.Peer.{Peer}
 use Rattle.peers.specs.declared.Table.{Table}
 use Rattle.peers.specs.View.{shows, full}
 use Rattle.peers.proofs.Laws.{shown_is}
-use Rattle.rules.specs.OnePeer.{Call, Left, same, Outcome, is_early, receive_of, remove_of, look_up_of}
+use Rattle.rules.specs.OnePeer.{Call, Left, same, Outcome, is_early, receive_of, remove_of, look_up_of, removal_number, look_number}
 use Rattle.rules.specs.declared.LookUp.{LookUp}
 use Rattle.platform.specs.declared.LookedUp.{LookedUp}
 use Rattle.platform.specs.declared.Received.{Received}
 use Rattle.rules.specs.declared.Removal.{Removal}
 use Rattle.platform.specs.declared.Removed.{Removed}
-use Rattle.rules.specs.OnePeer.{removal_number, look_number}
 use Rattle.platform.specs.Promises.{Settles, Dates, Receives, left_by_removal, Removes, IsSeen, LooksUp}
 use Rattle.platform.proofs.Settling.{settles_none}
 use Rattle.rules.specs.Alone.{Ask, receive, remove, look_up, whose, reading_of, Got, answered, removed, found, Alone, live_at, outcome_for, removal_for, look_for, overwritten, gets, removal_leaves, leaves}

@@ -1,6 +1,5 @@
 -- Both sides of each edge: document 01's P1 to P10 as one table of what the definitions give and what it must be.
-use Rattle.std.specs.Prelude.{ℕ, ◌+◌, ◌*◌, ◌-◌, ◌/◌, ◌≡◌, Bool, true, false, List, [], ◌∷◌, ◌++◌, length, take, replicate, if◌then◌else◌}
-use Rattle.std.specs.Prelude.{Option, None, Some}
+use Rattle.std.specs.Prelude.{ℕ, ◌+◌, ◌*◌, ◌-◌, ◌/◌, ◌≡◌, Bool, true, false, List, [], ◌∷◌, ◌++◌, length, take, replicate, if◌then◌else◌, Option, None, Some, is_some}
 use Rattle.octets.specs.Numbers.{le, octets}
 use Rattle.octets.specs.Pieces.{pieces}
 use Rattle.std.specs.List.{find}
@@ -10,7 +9,6 @@ use Rattle.elements.specs.Body.{body_of}
 use Rattle.scan.specs.Scan.{scan_of}
 use Rattle.suites.specs.Suite.{suite_at, suite_octets}
 use Rattle.suites.specs.Tables.{akm_of, cipher_of, group_of, is_key_of}
-use Rattle.rsne.specs.declared.Reading.{Reading}
 use Rattle.layouts.specs.Mic.{mic_octets}
 use Rattle.parameters.specs.Parameters.{parameters_of, parameters_octets}
 use Rattle.rsne.specs.Rsne.{rsne_of, rsne_octets}
@@ -100,14 +98,10 @@ hears body = asks station 148 short_key [] body
 abbrev pub whether : Bool → ℕ
 whether b = if b then 1 else 0
 
-abbrev pub is_read : Reading → Bool
-is_read (Reading.Is rsne) = true
-is_read Reading.Ill = false
-
 -- whether n octets are the content of an RSNE with m = a = 1 and p PMKIDs
 unfoldable pub reads : ℕ → ℕ → Bool
 unfolding rsne_of le suite_at
-reads p n = is_read (rsne_of (take n (rsne_front 4 8 p ++ replicate n 0)))
+reads p n = is_some (rsne_of (take n (rsne_front 4 8 p ++ replicate n 0)))
 
 -- how long the content is that is written with p PMKIDs, without its ID and length
 unfoldable pub writes : ℕ → ℕ

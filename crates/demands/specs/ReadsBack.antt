@@ -1,16 +1,13 @@
 -- What receive accepts, exactly; and its reply, read by the layouts of every frame.
-use Rattle.std.specs.Prelude.{◌≡◌, Bool, true, false, List, ◌↔◌, ℕ, length, take, replicate}
-use Rattle.std.specs.Prelude.{None, Some}
+use Rattle.std.specs.Prelude.{◌≡◌, Bool, true, false, List, ◌↔◌, ℕ, length, take, replicate, None, Some, Ok, Err}
 use Rattle.units.specs.declared.Tu.{Tu}
-use Rattle.elements.specs.declared.Opened.{Opened}
 use Rattle.elements.specs.declared.Part.{Part}
 use Rattle.elements.specs.Body.{body_of}
 use Rattle.suites.specs.declared.Akm.{Akm}
-use Rattle.suites.specs.declared.AkmEntry.{AkmEntry}
 use Rattle.suites.specs.declared.Suite.TheVariants.{Ours}
 use Rattle.suites.specs.Tables.{akm_of, is_key_of}
 use Rattle.frames.specs.declared.first.Facts.{Facts}
-use Rattle.frames.specs.Contents.{content}
+use Rattle.elements.specs.Lies.{content}
 use Rattle.frames.specs.First.{first_of}
 use Rattle.writers.specs.SecondRead.{second_of}
 use Rattle.frames.specs.Third.{third_of}
@@ -20,7 +17,7 @@ use Rattle.peers.specs.declared.Table.{Table}
 use Rattle.peers.specs.View.{shows, full}
 use Rattle.rules.specs.declared.Answer.{Answer}
 use Rattle.rules.specs.declared.Refusal.{Refusal}
-use Rattle.rules.specs.OnePeer.{Call, answer_number, is_installed, checks, terms_of, Step, refuse, pass, Passed, listed, steps, lifetime_of}
+use Rattle.rules.specs.OnePeer.{Call, answer_number, is_installed, checks, terms_of, Step, Passed, listed, steps, lifetime_of}
 use Rattle.platform.specs.declared.Received.{Received}
 use Rattle.platform.specs.Promises.{Receives}
 
@@ -30,7 +27,7 @@ use Rattle.platform.specs.Promises.{Receives}
 pub record FirstFrame (t : Table) (call : Call) : Type 0 where
   pub checked : checks t.latest call.brought call.cache (length call.buffer) ≡ None
   pub status : ℕ
-  pub opens : body_of call.body ≡ Opened.Body (record { algorithm = 7; transaction = 1; status = status })
+  pub opens : body_of call.body ≡ Some (record { algorithm = 7; transaction = 1; status = status })
   pub free : is_installed (shows t call.brought.reading call.brought.address) ≡ false
 
 -- what the steps come to, by whether the table is full for this peer
@@ -41,24 +38,24 @@ stepped t call = steps call.brought call.cache call.body (full t call.brought.re
 pub record AcceptsFirst (own_key : Bool) (t : Table) (call : Call) : Type 0 where
   pub frame : FirstFrame t call
   pub passed : Passed
-  pub passes : stepped t call ≡ pass passed
+  pub passes : stepped t call ≡ Ok passed
   pub key : is_key_of passed.group call.key ≡ own_key
 
 -- one of them refuses it
 pub record RefusesFirst (why : Refusal) (t : Table) (call : Call) : Type 0 where
   pub frame : FirstFrame t call
-  pub refuses : stepped t call ≡ refuse why
+  pub refuses : stepped t call ≡ Err why
 
 -- a third frame of status 0 and of a waiting peer, well-formed, whose MIC is the lent one
 pub record AcceptsThird (t : Table) (call : Call) : Type 0 where
   pub checked : checks t.latest call.brought call.cache (length call.buffer) ≡ None
-  pub opens : body_of call.body ≡ Opened.Body (record { algorithm = 7; transaction = 3; status = 0 })
+  pub opens : body_of call.body ≡ Some (record { algorithm = 7; transaction = 3; status = 0 })
   pub peer : Peer
   pub shown : shows t call.brought.reading call.brought.address ≡ Some peer
   pub deadline : Tu
   pub waiting : peer.phase ≡ Waiting deadline
   pub akm : Akm
-  pub listed : akm_of peer.agreed.akm ≡ AkmEntry.In akm
+  pub listed : akm_of peer.agreed.akm ≡ Some akm
   pub part : Part
   pub reads : third_of call.body akm.mic ≡ Some part
   pub mic : content call.body part ≡ call.mic
@@ -80,7 +77,7 @@ pub record SecondFrame (t : Table) (call : Call) (reply : List ℕ) : Type 0 whe
   pub first : Facts
   pub read : first_of call.body ≡ Some first
   pub passed : Passed
-  pub passes : stepped t call ≡ pass passed
+  pub passes : stepped t call ≡ Ok passed
   pub reads : second_of reply
       ≡ Some (record {
         algorithm = 7;
@@ -102,7 +99,7 @@ pub record SecondFrame (t : Table) (call : Call) (reply : List ℕ) : Type 0 whe
 -- six octets: the frame's algorithm, transaction 2, the status
 pub record SixOctets (status : ℕ) (reply : List ℕ) : Type 0 where
   pub six : length reply ≡ 6
-  pub reads : body_of reply ≡ Opened.Body (record { algorithm = 7; transaction = 2; status = status })
+  pub reads : body_of reply ≡ Some (record { algorithm = 7; transaction = 2; status = status })
 
 -- the reply is the first octets of the buffer, as many as are told
 pub record RepliesReadBack (t : Table) (call : Call) (after : List ℕ) (r : Received) : Type 0 where

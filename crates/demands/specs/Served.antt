@@ -1,7 +1,6 @@
 -- What a host asks of a unit, call by call, and every run that the unit's promises allow.
-use Rattle.std.specs.Prelude.{ℕ, ◌≤◌, ◌≡◌, length, if◌then◌else◌}
+use Rattle.std.specs.Prelude.{ℕ, ◌≤◌, ◌≡◌, length, if◌then◌else◌, Option, None, Some}
 use mathlib.Core.List.{List, [], ◌∷◌, Memᴰ}
-use Rattle.std.specs.Prelude.{Option, None, Some}
 use Rattle.octets.specs.Equality.{same_octets}
 use Rattle.octets.specs.Search.{Each}
 use Rattle.units.specs.declared.Tu.{Tu}
@@ -9,13 +8,12 @@ use Rattle.units.specs.Units.{clock_limit}
 use Rattle.peers.specs.declared.Peer.{Peer}
 use Rattle.peers.specs.declared.Table.{Table}
 use Rattle.peers.specs.Promises.{Nobody}
-use Rattle.rules.specs.OnePeer.{Call}
+use Rattle.rules.specs.OnePeer.{Call, removal_number, look_number}
 use Rattle.rules.specs.Alone.{Ask, receive, remove, look_up, whose, reading_of, Got, answered, removed, found}
 use Rattle.rules.specs.declared.LookUp.{LookUp}
 use Rattle.platform.specs.declared.LookedUp.{LookedUp}
 use Rattle.platform.specs.declared.Received.{Received}
 use Rattle.platform.specs.declared.Removed.{Removed}
-use Rattle.rules.specs.OnePeer.{removal_number, look_number}
 use Rattle.platform.specs.Promises.{Receives, Removes, LooksUp}
 
 -- the record that a look-up gives: one beside 18, else none

@@ -12,7 +12,7 @@ use Rattle.rules.specs.declared.Refusal.{Refusal}
 use Rattle.opening.specs.declared.Accepted.{Accepted}
 use Rattle.opening.specs.declared.Decided.{Decided}
 use Rattle.opening.specs.declared.Decision.{Decision}
-use Rattle.rules.specs.OnePeer.{pass, Passed, listed, smallest_buffer, steps, refusal, acceptance, first_outcome}
+use Rattle.rules.specs.OnePeer.{Passed, listed, smallest_buffer, steps, refusal, acceptance, first_outcome}
 use Rattle.rules.proofs.Inversion.{Passes, passes}
 use Rattle.opening.specs.Decided.{passed_of, decided_by, decided_of, ReplyFits}
 
@@ -33,7 +33,7 @@ module _ (brought : Brought) (d : Decided) (file key body : List ℕ) (algorithm
   refused_same h = rw (sym decided ∙ ap (decided_by d.pmkid) h)
 
   module _ {a : Accepted} (passed : d.decision ≡ Decision.Passed a) where
-    passing : steps brought file body full ≡ pass (passed_of a d.pmkid)
+    passing : steps brought file body full ≡ Ok (passed_of a d.pmkid)
     passing = sym decided ∙ ap (decided_by d.pmkid) passed
 
     pub accepted_same : acceptance brought key algorithm (passed_of a d.pmkid) ≡ first_outcome brought key algorithm waiting (steps brought file body full)

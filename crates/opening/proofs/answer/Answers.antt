@@ -4,8 +4,7 @@ use lib.ListN.{length}
 use Prim.Native.Nat.{ℕ}
 use Rattle.opening.proofs.Accepting.{refused_same, accepted_same, reply_fits}
 use Rattle.rules.proofs.Verdicts.{gets_same}
-use borrow.Author.Rules.{length_unmapped}
-use borrow.Author.Rules.{rules}
+use borrow.Author.Rules.{length_unmapped, rules}
 use Rattle.opening.proofs.answer.Goals as goal
 
 pub accept-requires : goal.accept-requires

@@ -1,6 +1,6 @@
 use mathlib.Core.Path.{◌∙◌}
 use borrow.Author.Tests.{not-true, not-false}
-use Rattle.frames.specs.Contents.{content}
+use Rattle.elements.specs.Lies.{content}
 use Rattle.opening.specs.Decided.{with_key}
 use Rattle.opening.proofs.Steps.{pmkid_refused, choice_of_pmkid}
 use Rattle.opening.proofs.with_key.Goals as goal

@@ -2,85 +2,80 @@
 use mathlib.Core.Path.{◌≡◌, refl, sym, ap, subst, ◌∙◌}
 use mathlib.Core.Bool.{Bool, true, false, ◌||◌}
 use mathlib.Core.List.{List}
-use Rattle.std.specs.Prelude.{Option, None, Some}
+use Rattle.std.specs.Prelude.{Option, None, Some, Ok, Err, if◌then◌else◌}
 use Prim.Native.Nat.{ℕ, ◌*◌, ◌/◌, ◌^◌, ◌<◌}
 use native.Mathlib.Omega.{arith}
 use lib.Dec.{eqb}
 use lib.ListN.{length, drop, length-take, length-drop}
-use Rattle.std.specs.Prelude.{if◌then◌else◌}
 use Rattle.octets.specs.Pieces.{pieces}
 use Rattle.units.specs.declared.Tu.{Tu}
 use Rattle.suites.specs.declared.Akm.{Akm}
-use Rattle.suites.specs.declared.AkmEntry.{AkmEntry}
 use Rattle.suites.specs.declared.Group.{Group}
-use Rattle.suites.specs.declared.GroupEntry.{GroupEntry}
+use Rattle.suites.specs.declared.Suite.{Suite}
 use Rattle.suites.specs.declared.Suite.TheVariants.{Ours, Other}
 use Rattle.suites.specs.Tables.{akm_of, cipher_of, group_of}
 use Rattle.suites.proofs.Laws.{akm_found}
-use Rattle.rsne.specs.declared.Only.{Only}
-use Rattle.rsne.specs.declared.Only.TheVariants.{One, Otherwise}
 use Rattle.rsne.specs.declared.Rsne.{Rsne}
 use Rattle.frames.specs.declared.first.Facts.{Facts}
-use Rattle.frames.specs.Contents.{content}
+use Rattle.elements.specs.Lies.{content}
 use Rattle.frames.specs.First.{first_of}
 use Rattle.cache.specs.declared.Choice.{Choice}
 use Rattle.cache.specs.File.{records_of}
 use Rattle.cache.specs.Search.{choice_of}
 use Rattle.rules.specs.declared.Brought.{Brought}
+use Rattle.rules.specs.declared.Passed.{Passed}
 use Rattle.rules.specs.declared.Refusal.{Refusal}
 use Rattle.rules.specs.declared.Settings.{Settings}
-use Rattle.rules.specs.OnePeer.{Step, refuse, pass, ◌>>=◌, terms_of, formed, is_allowed, akm_allowed, grouped, pmkid_chosen, step1, step2, step3, step4, step5, step6, step7, step8, step9, step10, step11, Suites, Passed, passed_with, lifetime_of, suite_steps, key_steps, steps}
+use Rattle.rules.specs.declared.Suites.{Suites}
+use Rattle.rules.specs.OnePeer.{Step, ◌>>=◌, terms_of, formed, is_allowed, akm_allowed, grouped, pmkid_chosen, step1, step2, step3, step4, step5, step6, step7, step8, step9, step10, step11, passed_with, lifetime_of, suite_steps, key_steps, steps}
 use Rattle.rules.proofs.Pmkids.{in_list, that_part}
 
-refuse_pass : {A : Type 0} {why : Refusal} {x : A} → ◌≡◌ {A = Step A} (refuse why) (pass x) → ⊥
-refuse_pass e = let z : ◌≡◌ {A = ℕ} 0 1 = cc in omega arith
-
-pass_same : {A : Type 0} {x y : A} → pass x ≡ pass y → x ≡ y
-pass_same e = cc
+ok_same : {A : Type 0} {x y : A} → ◌≡◌ {A = Step A} (Ok x) (Ok y) → x ≡ y
+ok_same e = cc
 
 -- a choice that passes took its first branch
-chose : {A : Type 0} (b : Bool) (why : Refusal) {x y : A} → (if b then pass x else refuse why) ≡ pass y → x ≡ y
-chose true why e = pass_same e
-chose false why e = absurd (refuse_pass e)
+chose : {A : Type 0} (b : Bool) (why : Refusal) {x y : A} → (if b then Ok x else Err why) ≡ Ok y → x ≡ y
+chose true why e = ok_same e
+chose false why e = cc
 
 -- a chain that passes passes at its first step, and then
 record Bound {A B : Type 0} (m : Step A) (f : A → Step B) (y : B) : Type 0 where
   value : A
-  here : m ≡ pass value
-  rest : f value ≡ pass y
+  here : m ≡ Ok value
+  rest : f value ≡ Ok y
 
-bound : {A B : Type 0} (m : Step A) (f : A → Step B) {y : B} → m >>= f ≡ pass y → Bound m f y
-bound (refuse why) f e = absurd (refuse_pass e)
-bound (pass x) f e = record { value = x; here = refl; rest = e }
+bound : {A B : Type 0} (m : Step A) (f : A → Step B) {y : B} → m >>= f ≡ Ok y → Bound m f y
+bound (Err why) f e = cc
+bound (Ok x) f e = record { value = x; here = refl; rest = e }
 
 -- The suites are the frame's, and the AKM's entry is that of the table.
 pub record SuitesOf (rsne : Rsne) (s : Suites) : Type 0 where
-  pub cipher : rsne.pairwise ≡ One (Ours s.cipher)
-  pub akm : rsne.akm ≡ One (Ours s.akm.kind)
-  pub listed : akm_of s.akm.kind ≡ AkmEntry.In s.akm
+  pub cipher : rsne.pairwise ≡ Some (Ours s.cipher)
+  pub akm : rsne.akm ≡ Some (Ours s.akm.kind)
+  pub listed : akm_of s.akm.kind ≡ Some s.akm
 
-cipher_same : (settings : Settings) (only : Only) {cipher : ℕ} → step4 settings only ≡ pass cipher → only ≡ One (Ours cipher)
-cipher_same settings (One (Ours kind)) e = ap (λ (k : ℕ). One (Ours k)) (chose (is_allowed settings (cipher_of kind)) Refusal.PairwiseCipher e)
-cipher_same settings (One Other) e = absurd (refuse_pass e)
-cipher_same settings Otherwise e = absurd (refuse_pass e)
+cipher_same : (settings : Settings) (only : Option Suite) {cipher : ℕ} → step4 settings only ≡ Ok cipher → only ≡ Some (Ours cipher)
+cipher_same settings (Some (Ours kind)) e = ap (λ (k : ℕ). Some (Ours k)) (chose (is_allowed settings (cipher_of kind)) Refusal.PairwiseCipher e)
+cipher_same settings (Some Other) e = cc
+cipher_same settings None e = cc
 
-record AkmOf (only : Only) (akm : Akm) : Type 0 where
-  one : only ≡ One (Ours akm.kind)
-  listed : akm_of akm.kind ≡ AkmEntry.In akm
+record AkmOf (only : Option Suite) (akm : Akm) : Type 0 where
+  one : only ≡ Some (Ours akm.kind)
+  listed : akm_of akm.kind ≡ Some akm
 
-akm_same : (settings : Settings) (only : Only) {akm : Akm} → step5 settings only ≡ pass akm → AkmOf only akm
-akm_same settings (One (Ours kind)) {akm} e = go (akm_of kind) refl e
+akm_same : (settings : Settings) (only : Option Suite) {akm : Akm} → step5 settings only ≡ Ok akm → AkmOf only akm
+akm_same settings (Some (Ours kind)) {akm} e = go (akm_of kind) refl e
   where
-    go : (entry : AkmEntry) → akm_of kind ≡ entry → akm_allowed settings entry ≡ pass akm → AkmOf (One (Ours kind)) akm
-    go (AkmEntry.In a) q e =
+    go : (entry : Option Akm) → akm_of kind ≡ entry → akm_allowed settings entry ≡ Ok akm → AkmOf (Some (Ours kind)) akm
+    go (Some a) q e =
         let k : kind ≡ a.kind = sym (akm_found q).asked in
-        subst (AkmOf (One (Ours kind))) (chose (a.pmk || settings.pmkless) Refusal.Akm e)
-        (record { one = ap (λ (k : ℕ). One (Ours k)) k; listed = ap akm_of (sym k) ∙ q })
-    go AkmEntry.NotInTable q e = absurd (refuse_pass e)
-akm_same settings (One Other) e = absurd (refuse_pass e)
-akm_same settings Otherwise e = absurd (refuse_pass e)
+        subst (AkmOf (Some (Ours kind))) (chose (a.pmk || settings.pmkless) Refusal.Akm e)
+        (record { one = ap (λ (k : ℕ). Some (Ours k)) k; listed = ap akm_of (sym k) ∙ q })
+    go None q e = cc
+akm_same settings (Some Other) e = cc
+akm_same settings None e = cc
 
-suites_same : (settings : Settings) (format : ℕ) (rsne : Rsne) {s : Suites} → suite_steps settings format rsne ≡ pass s → SuitesOf rsne s
+suites_same : (settings : Settings) (format : ℕ) (rsne : Rsne) {s : Suites} → suite_steps settings format rsne ≡ Ok s → SuitesOf rsne s
 unfolding suite_steps
 suites_same settings format rsne {s} e =
     let b₂ = bound (step2 format) _ e in
@@ -89,50 +84,50 @@ suites_same settings format rsne {s} e =
     let b₅ = bound (step5 settings rsne.akm) _ b₄.rest in
     let b₆ = bound (step6 rsne.capabilities) _ b₅.rest in
     let a = akm_same settings rsne.akm b₅.here in
-    subst (SuitesOf rsne) (pass_same b₆.rest) (record { cipher = cipher_same settings rsne.pairwise b₄.here; akm = a.one; listed = a.listed })
+    subst (SuitesOf rsne) (ok_same b₆.rest) (record { cipher = cipher_same settings rsne.pairwise b₄.here; akm = a.one; listed = a.listed })
 
 -- The group's entry is that of the table.
-group_listed : (number : ℕ) (key : List ℕ) (point : Bool) {group : Group} → key_steps number key point ≡ pass group → group_of number ≡ GroupEntry.In group
+group_listed : (number : ℕ) (key : List ℕ) (point : Bool) {group : Group} → key_steps number key point ≡ Ok group → group_of number ≡ Some group
 unfolding key_steps
 group_listed number key point e =
     let b₇ = bound (step7 number) _ e in
     let b₈ = bound (step8 b₇.value key) _ b₇.rest in
     let b₉ = bound (step9 point) _ b₈.rest in
-    go (group_of number) b₇.here ∙ ap GroupEntry.In (pass_same b₉.rest)
+    go (group_of number) b₇.here ∙ ap Some (ok_same b₉.rest)
   where
-    go : (entry : GroupEntry) {g : Group} → grouped entry ≡ pass g → entry ≡ GroupEntry.In g
-    go (GroupEntry.In g) e = ap GroupEntry.In (pass_same e)
-    go GroupEntry.NotInTable e = absurd (refuse_pass e)
+    go : (entry : Option Group) {g : Group} → grouped entry ≡ Ok g → entry ≡ Some g
+    go (Some g) e = ap Some (ok_same e)
+    go None e = cc
 
 -- A PMKID that was chosen has 16 octets.
 abbrev pub Sixteen : Option (List ℕ) → Type 0
 Sixteen None = Unit {0}
 Sixteen (Some pmkid) = length pmkid ≡ 16
 
-sixteen : (akm : Akm) (cache : List ℕ) (reading : Tu) (s : List ℕ) {pmkid : Option (List ℕ)} → step10 akm cache reading s ≡ pass pmkid → Sixteen pmkid
+sixteen : (akm : Akm) (cache : List ℕ) (reading : Tu) (s : List ℕ) {pmkid : Option (List ℕ)} → step10 akm cache reading s ≡ Ok pmkid → Sixteen pmkid
 sixteen akm cache reading s {pmkid} e = by_akm akm.pmk e
   where
-    by_choice : (c : Choice) → choice_of (records_of cache) (pieces 16 (length s / 16) s) akm.kind reading ≡ c → pmkid_chosen (pieces 16 (length s / 16) s) c ≡ pass pmkid → Sixteen pmkid
-    by_choice (Choice.Chosen k end) c e =
+    by_choice : (c : Option Choice) → choice_of (records_of cache) (pieces 16 (length s / 16) s) akm.kind reading ≡ c → pmkid_chosen (pieces 16 (length s / 16) s) c ≡ Ok pmkid → Sixteen pmkid
+    by_choice (Some choice) c e =
         let part = that_part (records_of cache) s akm.kind reading c in
         let n = in_list (records_of cache) s akm.kind reading c in
-        subst Sixteen (pass_same e) (rw part (length-take 16 (drop (16 * k) s) ∙ omega (arith, length-drop (16 * k) s)))
-    by_choice Choice.Nothing c e = absurd (refuse_pass e)
+        subst Sixteen (ok_same e) (rw part (length-take 16 (drop (16 * choice.pmkid) s) ∙ omega (arith, length-drop (16 * choice.pmkid) s)))
+    by_choice None c e = cc
 
     by_akm : (b : Bool)
-        → (if b then pmkid_chosen (pieces 16 (length s / 16) s) (choice_of (records_of cache) (pieces 16 (length s / 16) s) akm.kind reading) else (if eqb (length s) 0 then pass None else refuse Refusal.Pmkid))
-        ≡ pass pmkid
+        → (if b then pmkid_chosen (pieces 16 (length s / 16) s) (choice_of (records_of cache) (pieces 16 (length s / 16) s) akm.kind reading) else (if eqb (length s) 0 then Ok None else Err Refusal.Pmkid))
+        ≡ Ok pmkid
         → Sixteen pmkid
     by_akm true e = by_choice (choice_of (records_of cache) (pieces 16 (length s / 16) s) akm.kind reading) refl e
     by_akm false e = subst Sixteen (chose (eqb (length s) 0) Refusal.Pmkid e) tt
 
-has_room : (full : Bool) {b : Bool} → step11 full ≡ pass b → full ≡ false
-has_room true e = absurd (refuse_pass e)
+has_room : (full : Bool) {b : Bool} → step11 full ≡ Ok b → full ≡ false
+has_room true e = cc
 has_room false e = refl
 
-is_facts : (first : Option Facts) {facts : Facts} → formed first ≡ pass facts → first ≡ Some facts
-is_facts (Some x) e = ap Some (pass_same e)
-is_facts None e = absurd (refuse_pass e)
+is_facts : (first : Option Facts) {facts : Facts} → formed first ≡ Ok facts → first ≡ Some facts
+is_facts (Some x) e = ap Some (ok_same e)
+is_facts None e = cc
 
 -- What the frame said, and what was chosen of it.
 pub record Passes (brought : Brought) (body : List ℕ) (full : Bool) (passed : Passed) : Type 0 where
@@ -141,13 +136,13 @@ pub record Passes (brought : Brought) (body : List ℕ) (full : Bool) (passed : 
   pub suites : Suites
   pub of : SuitesOf facts.rsne suites
   pub group : Group
-  pub grouped : group_of facts.group ≡ GroupEntry.In group
+  pub grouped : group_of facts.group ≡ Some group
   pub pmkid : Option (List ℕ)
   pub one : Sixteen pmkid
   pub room : full ≡ false
   pub is : passed ≡ passed_with suites group pmkid (lifetime_of brought.settings.lifetime facts.lifetime)
 
-pub passes : (brought : Brought) (cache body : List ℕ) (full : Bool) {passed : Passed} → steps brought cache body full ≡ pass passed → Passes brought body full passed
+pub passes : (brought : Brought) (cache body : List ℕ) (full : Bool) {passed : Passed} → steps brought cache body full ≡ Ok passed → Passes brought body full passed
 unfolding steps
 passes brought cache body full {passed} e =
     let b₁ = bound (step1 body) _ e in
@@ -166,7 +161,7 @@ passes brought cache body full {passed} e =
       pmkid = b₄.value;
       one = sixteen b₂.value.akm cache brought.reading (content body facts.rsne.pmkids) b₄.here;
       room = has_room full b₅.here;
-      is = sym (pass_same b₅.rest);
+      is = sym (ok_same b₅.rest);
     }
 
 -- a status is a number of two octets

@@ -3,7 +3,7 @@ use mathlib.Core.Path.{◌≡◌, refl, sym, ap, subst, ◌∙◌}
 use mathlib.Core.List.{List, [], ◌∷◌, ◌++◌}
 use Prim.Native.Nat.{ℕ, suc}
 use native.Mathlib.Omega.{arith}
-use lib.ListN.{length, replicate}
+use lib.ListN.{length}
 use Rattle.octets.specs.Wrote.{Wrote}
 use Rattle.octets.proofs.Parts.{wrote_none}
 use Rattle.rules.specs.declared.Answer.{Answer}
@@ -15,15 +15,15 @@ use Rattle.rules.specs.Told.{Gets, Decides}
 pub gets_same : {o o' : Outcome} {before after : List ℕ} {r : Verdict} → o ≡ o' → Gets o before after r → Gets o' before after r
 gets_same {before = before} {after = after} {r = r} e g = subst (λ (o : Outcome). Gets o before after r) e g
 
--- a verdict that writes nothing and makes no record
+-- a verdict that writes nothing
 abbrev silent : Answer → Leaves → Verdict
-silent answer leaves = record { answer = answer; length = 0; leaves = leaves; pmkid = replicate 16 0 }
+silent answer leaves = record { answer = answer; length = 0; leaves = leaves }
 
 pub stays : {answer : Answer} {r : Verdict} (d : List ℕ) → r ≡ silent answer Leaves.Same → Gets (unchanged answer) d d r
-stays {answer} d e = subst (Gets (unchanged answer) d d) (sym e) (record { answer = refl; wrote = wrote_none d; leaves = refl; pmkid = refl })
+stays {answer} d e = subst (Gets (unchanged answer) d d) (sym e) (record { answer = refl; wrote = wrote_none d; leaves = refl })
 
 pub goes : {answer : Answer} {r : Verdict} (d : List ℕ) → r ≡ silent answer Leaves.Gone → Gets (lost answer) d d r
-goes {answer} d e = subst (Gets (lost answer) d d) (sym e) (record { answer = refl; wrote = wrote_none d; leaves = refl; pmkid = refl })
+goes {answer} d e = subst (Gets (lost answer) d d) (sym e) (record { answer = refl; wrote = wrote_none d; leaves = refl })
 
 no_front : (l m : List ℕ) → [] ≡ l ++ m → l ≡ []
 no_front [] m e = refl
@@ -37,5 +37,4 @@ in_any {o} {r} d g =
       answer = g.answer;
       wrote = subst (λ (l : List ℕ). Wrote l r.length d d) (sym empty) (subst (λ (n : ℕ). Wrote [] n d d) (sym (g.wrote.tells ∙ ap length empty)) (wrote_none d));
       leaves = g.leaves;
-      pmkid = g.pmkid;
     }

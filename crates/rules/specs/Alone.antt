@@ -1,6 +1,5 @@
 -- One peer alone: what its calls get, one after another, and what they leave of its record, by the one-peer rules.
-use Rattle.std.specs.Prelude.{ℕ, false, List, [], ◌∷◌, ◌++◌, eqb, length, drop, if◌then◌else◌}
-use Rattle.std.specs.Prelude.{Option, None, Some}
+use Rattle.std.specs.Prelude.{ℕ, false, List, [], ◌∷◌, ◌++◌, eqb, length, drop, if◌then◌else◌, Option, None, Some}
 use Rattle.units.specs.declared.Tu.{Tu}
 use Rattle.peers.specs.declared.Peer.{Peer}
 use Rattle.peers.specs.Promises.{while_live}

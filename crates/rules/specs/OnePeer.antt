@@ -1,30 +1,23 @@
 -- The one-peer rules: what a call gets, by what it brings, this peer's live record or none, and whether sixteen others are live.
-use Rattle.std.specs.Prelude.{ℕ, ◌+◌, ◌/◌, ◌%◌, min, Bool, true, false, ◌&&◌, ◌||◌, not, List, [], eqb, ltb, leb, length, get_or, replicate, if◌then◌else◌}
-use Rattle.std.specs.Prelude.{Option, None, Some}
+use Rattle.std.specs.Prelude.{ℕ, ◌+◌, ◌/◌, ◌%◌, min, Bool, true, false, ◌&&◌, ◌||◌, not, List, [], eqb, ltb, leb, length, get_or, replicate, if◌then◌else◌, Option, Some, None, is_some, is_none, unwrap_or, Result, Ok, Err}
 use Rattle.octets.specs.Equality.{same_octets}
 use Rattle.octets.specs.Pieces.{pieces}
 use Rattle.units.specs.declared.Seconds.{Seconds}
 use Rattle.units.specs.declared.Tu.{Tu}
 use Rattle.units.specs.Units.{in_tu, in_clock}
 use Rattle.elements.specs.declared.Header.{Header}
-use Rattle.elements.specs.declared.Opened.{Opened}
 use Rattle.elements.specs.declared.Part.{Part}
 use Rattle.elements.specs.Body.{body_of}
+use Rattle.elements.specs.Lies.{content}
 use Rattle.suites.specs.declared.Akm.{Akm}
-use Rattle.suites.specs.declared.AkmEntry.{AkmEntry}
-use Rattle.suites.specs.declared.CipherEntry.{CipherEntry}
+use Rattle.suites.specs.declared.Cipher.{Cipher}
 use Rattle.suites.specs.declared.Group.{Group}
-use Rattle.suites.specs.declared.GroupEntry.{GroupEntry}
 use Rattle.suites.specs.declared.Suite.{Suite}
 use Rattle.suites.specs.declared.Suite.TheVariants.{Ours, Other}
 use Rattle.suites.specs.Tables.{akm_of, cipher_of, group_of, is_key_of}
 use Rattle.rsne.specs.declared.Rsne.{Rsne}
-use Rattle.rsne.specs.declared.Only.{Only}
-use Rattle.rsne.specs.declared.Only.TheVariants.{One, Otherwise}
-use Rattle.frames.specs.declared.contents.Lifetime.{Lifetime}
 use Rattle.frames.specs.declared.first.Facts.{Facts}
 use Rattle.writers.specs.declared.second.Chosen.{Chosen}
-use Rattle.frames.specs.Contents.{content}
 use Rattle.frames.specs.First.{first_of}
 use Rattle.writers.specs.Header.{header_octets}
 use Rattle.writers.specs.Second.{second_octets, longest_second}
@@ -36,13 +29,14 @@ use Rattle.peers.specs.declared.Agreed.{Agreed}
 use Rattle.peers.specs.declared.Peer.{Peer}
 use Rattle.peers.specs.declared.Phase.{Phase}
 use Rattle.peers.specs.declared.Phase.TheVariants.{Waiting, Installed}
-use Rattle.peers.specs.View.{absent}
 use Rattle.rules.specs.declared.Answer.{Answer}
 use Rattle.rules.specs.declared.Brought.{Brought}
 use Rattle.rules.specs.declared.LookUp.{LookUp}
+use Rattle.rules.specs.declared.Passed.{Passed}
 use Rattle.rules.specs.declared.Refusal.{Refusal}
 use Rattle.rules.specs.declared.Removal.{Removal}
 use Rattle.rules.specs.declared.Settings.{Settings}
+use Rattle.rules.specs.declared.Suites.{Suites}
 
 -- What a call brings -------------------------------------------------------------------------------------------------------------------
 
@@ -164,23 +158,22 @@ status_beside Answer.NoExchange = None
 status_beside Answer.ThirdRefused = None
 status_beside Answer.Installed = None
 
--- a step refuses, or passes and shows a value
-pub data Step (A : Type 0) : Type 0 where
-  refuse : Refusal → Step A
-  pass : A → Step A
+-- a step refuses, `Err`, or passes and shows a value, `Ok`
+abbrev pub Step : Type 0 → Type 0
+Step A = Result A Refusal
 
 infixl 20 ◌>>=◌
 abbrev pub ◌>>=◌ : {A B : Type 0} → Step A → (A → Step B) → Step B
-refuse why >>= f = refuse why
-pass x >>= f = f x
+Err why >>= f = Err why
+Ok x >>= f = f x
 
 abbrev pub refuse_if : Refusal → Bool → Step Bool
-refuse_if why wrong = if wrong then refuse why else pass true
+refuse_if why wrong = if wrong then Err why else Ok true
 
 -- 1. 40: ill-formed
 abbrev pub formed : Option Facts → Step Facts
-formed (Some facts) = pass facts
-formed None = refuse Refusal.IllFormed
+formed (Some facts) = Ok facts
+formed None = Err Refusal.IllFormed
 
 abbrev pub step1 : List ℕ → Step Facts
 step1 body = formed (first_of body)
@@ -198,24 +191,24 @@ abbrev pub step3 : Suite → Suite → Step Bool
 step3 group management = refuse_if Refusal.GroupCipher (not (is_suite 7 group && is_suite 7 management))
 
 -- 4. 42: not exactly one pairwise suite, or not an allowed one
-abbrev pub is_allowed : Settings → CipherEntry → Bool
-is_allowed settings (CipherEntry.In cipher) = eqb (settings.ciphers / cipher.flag % 2) 1
-is_allowed settings CipherEntry.NotInTable = false
+abbrev pub is_allowed : Settings → Option Cipher → Bool
+is_allowed settings (Some cipher) = eqb (settings.ciphers / cipher.flag % 2) 1
+is_allowed settings None = false
 
-abbrev pub step4 : Settings → Only → Step ℕ
-step4 settings (One (Ours kind)) = if is_allowed settings (cipher_of kind) then pass kind else refuse Refusal.PairwiseCipher
-step4 settings (One Other) = refuse Refusal.PairwiseCipher
-step4 settings Otherwise = refuse Refusal.PairwiseCipher
+abbrev pub step4 : Settings → Option Suite → Step ℕ
+step4 settings (Some (Ours kind)) = if is_allowed settings (cipher_of kind) then Ok kind else Err Refusal.PairwiseCipher
+step4 settings (Some Other) = Err Refusal.PairwiseCipher
+step4 settings None = Err Refusal.PairwiseCipher
 
 -- 5. 43: not exactly one AKM, or not in the table, or 21 where not allowed
-abbrev pub akm_allowed : Settings → AkmEntry → Step Akm
-akm_allowed settings (AkmEntry.In akm) = if akm.pmk || settings.pmkless then pass akm else refuse Refusal.Akm
-akm_allowed settings AkmEntry.NotInTable = refuse Refusal.Akm
+abbrev pub akm_allowed : Settings → Option Akm → Step Akm
+akm_allowed settings (Some akm) = if akm.pmk || settings.pmkless then Ok akm else Err Refusal.Akm
+akm_allowed settings None = Err Refusal.Akm
 
-abbrev pub step5 : Settings → Only → Step Akm
-step5 settings (One (Ours kind)) = akm_allowed settings (akm_of kind)
-step5 settings (One Other) = refuse Refusal.Akm
-step5 settings Otherwise = refuse Refusal.Akm
+abbrev pub step5 : Settings → Option Suite → Step Akm
+step5 settings (Some (Ours kind)) = akm_allowed settings (akm_of kind)
+step5 settings (Some Other) = Err Refusal.Akm
+step5 settings None = Err Refusal.Akm
 
 -- 6. 45: MFPC (bit 7) or MFPR (bit 6) clear, or No Pairwise (bit 1) set
 abbrev pub is_protected : ℕ → Bool
@@ -224,11 +217,7 @@ is_protected capabilities = eqb (capabilities / 128 % 2) 1 && eqb (capabilities 
 abbrev pub step6 : ℕ → Step Bool
 step6 capabilities = refuse_if Refusal.Unprotected (not (is_protected capabilities))
 
--- what steps 2 to 6 show
-pub record Suites : Type 0 where
-  pub cipher : ℕ
-  pub akm : Akm
-
+-- steps 2 to 6
 unfoldable pub suite_steps : Settings → ℕ → Rsne → Step Suites
 suite_steps settings format rsne = do
   _ ← step2 format
@@ -236,12 +225,12 @@ suite_steps settings format rsne = do
   cipher ← step4 settings rsne.pairwise
   akm ← step5 settings rsne.akm
   _ ← step6 rsne.capabilities
-  pass (record { cipher = cipher; akm = akm })
+  Ok (record { cipher = cipher; akm = akm })
 
 -- 7. 77: group not 19
-abbrev pub grouped : GroupEntry → Step Group
-grouped (GroupEntry.In group) = pass group
-grouped GroupEntry.NotInTable = refuse Refusal.Group
+abbrev pub grouped : Option Group → Step Group
+grouped (Some group) = Ok group
+grouped None = Err Refusal.Group
 
 abbrev pub step7 : ℕ → Step Group
 step7 number = grouped (group_of number)
@@ -254,49 +243,42 @@ step8 group key = refuse_if Refusal.KeyForm (not (is_key_of group key))
 abbrev pub step9 : Bool → Step Bool
 step9 point = refuse_if Refusal.Point (not point)
 
--- what steps 7 to 9 show
+-- steps 7 to 9
 unfoldable pub key_steps : ℕ → List ℕ → Bool → Step Group
 key_steps number key point = do
   group ← step7 number
   _ ← step8 group key
   _ ← step9 point
-  pass group
+  Ok group
 
 -- 10. 53: with AKM 21, any PMKID; with another AKM, no listed PMKID has a cache record of that PMKID, the same AKM and an end later than now.
 -- The first such PMKID of the frame's list is chosen; with AKM 21 there is none.
-abbrev pub pmkid_chosen : List (List ℕ) → Choice → Step (Option (List ℕ))
-pmkid_chosen pmkids (Choice.Chosen k end) = pass (Some (get_or pmkids k []))
-pmkid_chosen pmkids Choice.Nothing = refuse Refusal.Pmkid
+abbrev pub pmkid_chosen : List (List ℕ) → Option Choice → Step (Option (List ℕ))
+pmkid_chosen pmkids (Some choice) = Ok (Some (get_or pmkids choice.pmkid []))
+pmkid_chosen pmkids None = Err Refusal.Pmkid
 
 abbrev pub step10 : Akm → List ℕ → Tu → List ℕ → Step (Option (List ℕ))
 step10 akm cache reading pmkids =
     if akm.pmk then pmkid_chosen (pieces 16 (length pmkids / 16) pmkids) (choice_of (records_of cache) (pieces 16 (length pmkids / 16) pmkids) akm.kind reading)
-    else (if eqb (length pmkids) 0 then pass None
-    else refuse Refusal.Pmkid)
+    else (if eqb (length pmkids) 0 then Ok None
+    else Err Refusal.Pmkid)
 
 -- 11. 30: no live record of this address, and 16 live records of others
 abbrev pub step11 : Bool → Step Bool
 step11 full = refuse_if Refusal.TableFull full
 
 -- lifetime is the smaller of the settings' and the frame's, if it has one
-abbrev pub lifetime_of : Seconds → Lifetime → Seconds
-lifetime_of s (Lifetime.Asked a) = record { 0 = min s.0 a.0 }
-lifetime_of s Lifetime.Unasked = s
+abbrev pub lifetime_of : Seconds → Option Seconds → Seconds
+lifetime_of s (Some a) = record { 0 = min s.0 a.0 }
+lifetime_of s None = s
 
--- what a first frame that passes them all comes to: what was agreed, with the PMKID (zeros where there is none), the MIC's length, and the group
-pub record Passed : Type 0 where
-  pub agreed : Agreed
-  pub pmkid : List ℕ
-  pub mic : ℕ
-  pub group : Group
-
+-- what a first frame that passes them all comes to, with the PMKID that was chosen, or zeros where there is none
 abbrev pub kept : Option (List ℕ) → List ℕ
-kept None = replicate 16 0
-kept (Some pmkid) = pmkid
+kept pmkid = unwrap_or pmkid (replicate 16 0)
 
 abbrev pub passed_with : Suites → Group → Option (List ℕ) → Seconds → Passed
 passed_with suites group pmkid lifetime = record {
-  agreed = record { cipher = suites.cipher; akm = suites.akm.kind; cached = not (absent pmkid); lifetime = lifetime };
+  agreed = record { cipher = suites.cipher; akm = suites.akm.kind; cached = is_some pmkid; lifetime = lifetime };
   pmkid = kept pmkid;
   mic = suites.akm.mic;
   group = group;
@@ -310,7 +292,7 @@ steps brought cache body full = do
   group ← key_steps facts.group (content body facts.key) brought.lent.point
   pmkid ← step10 suites.akm cache brought.reading (content body facts.rsne.pmkids)
   _ ← step11 full
-  pass (passed_with suites group pmkid (lifetime_of brought.settings.lifetime facts.lifetime))
+  Ok (passed_with suites group pmkid (lifetime_of brought.settings.lifetime facts.lifetime))
 
 -- Accepted: the second frame, with the chosen PMKID or none, and the record waiting until now plus the settings' deadline.
 abbrev pub chosen_of : ℕ → Passed → Chosen
@@ -361,8 +343,8 @@ acceptance brought key algorithm passed =
     else unchanged Answer.OwnKey
 
 abbrev pub first_outcome : Brought → List ℕ → ℕ → Bool → Step Passed → Outcome
-first_outcome brought key algorithm waiting (refuse why) = refusal algorithm waiting why
-first_outcome brought key algorithm waiting (pass passed) = acceptance brought key algorithm passed
+first_outcome brought key algorithm waiting (Err why) = refusal algorithm waiting why
+first_outcome brought key algorithm waiting (Ok passed) = acceptance brought key algorithm passed
 
 -- an installed peer is answered 10
 abbrev pub first_frame : Brought → List ℕ → List ℕ → List ℕ → ℕ → Bool → Option Peer → Outcome
@@ -389,9 +371,9 @@ third_mic reading mic body p (Some part) =
 third_mic reading mic body p None = lost Answer.ThirdRefused
 
 -- the MIC's length follows the record's AKM
-abbrev pub third_akm : Tu → List ℕ → List ℕ → Peer → AkmEntry → Outcome
-third_akm reading mic body p (AkmEntry.In akm) = third_mic reading mic body p (third_of body akm.mic)
-third_akm reading mic body p AkmEntry.NotInTable = lost Answer.ThirdRefused
+abbrev pub third_akm : Tu → List ℕ → List ℕ → Peer → Option Akm → Outcome
+third_akm reading mic body p (Some akm) = third_mic reading mic body p (third_of body akm.mic)
+third_akm reading mic body p None = lost Answer.ThirdRefused
 
 -- A peer with no live record is answered 13, and so is an installed one.
 abbrev pub third_frame : Tu → List ℕ → List ℕ → ℕ → Option Peer → Outcome
@@ -435,9 +417,9 @@ by_transaction call header full own =
     else (if eqb header.transaction 3 then third_frame call.brought.reading call.mic call.body header.status own
     else unchanged Answer.Transaction))
 
-abbrev pub on_body : Call → Opened → Bool → Option Peer → Outcome
-on_body call (Opened.Body header) full own = by_transaction call header full own
-on_body call Opened.NoBody full own = unchanged Answer.BodyLength
+abbrev pub on_body : Call → Option Header → Bool → Option Peer → Outcome
+on_body call (Some header) full own = by_transaction call header full own
+on_body call None full own = unchanged Answer.BodyLength
 
 infixr 5 ◌or_else◌
 abbrev pub ◌or_else◌ : Option Answer → Outcome → Outcome
@@ -467,7 +449,7 @@ removal_number Removal.Removed = 16
 
 -- 17 (no live record), 16 (removed)
 abbrev pub remove_of : Tu → Tu → List ℕ → Option Peer → ℕ
-remove_of latest reading address own = asked latest reading address (if absent own then 17 else 16)
+remove_of latest reading address own = asked latest reading address (if is_none own then 17 else 16)
 
 abbrev pub look_number : LookUp → ℕ
 look_number LookUp.ClockOut = 1
@@ -477,4 +459,4 @@ look_number LookUp.Shown = 18
 
 -- 17 without a record, or 18 and the record
 abbrev pub look_up_of : Tu → Tu → List ℕ → Option Peer → ℕ
-look_up_of latest reading address own = asked latest reading address (if absent own then 17 else 18)
+look_up_of latest reading address own = asked latest reading address (if is_none own then 17 else 18)

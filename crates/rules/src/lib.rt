@@ -1,10 +1,12 @@
 // The rules for one peer: what a receive brings and what it gets. No table stands in them.
 #![tactic(auto)]
 
-ghost use Rattle.std.specs.Prelude.{◌≡◌, replicate};
+ghost use Rattle.std.specs.Prelude.{◌≡◌, ◌≤◌, ◌^◌};
 ghost use Rattle.rules.specs.OnePeer.{terms_of, answer_number, removal_number, look_number};
 
-use peers::{Agreed, Phase};
+use cache::Cache;
+use peers::{Agreed, Peer};
+use suites::{Akm, Group};
 use units::{Seconds, Tu};
 
 // What the host allows. A cipher is allowed by its flag of `suites`.
@@ -31,8 +33,30 @@ pub struct Brought {
     pub lent: Lent,
 }
 
-// Why a first frame is refused: the steps 1 to 11, in order.
+// A receive as it comes in: what it brings, the cache file, the lent own public key and MIC, and the body.
 #[derive(Clone, Copy)]
+pub struct Incoming<'a> {
+    pub brought: Brought,
+    pub cache: &'a [u8],
+    pub key: &'a [u8],
+    pub mic: &'a [u8],
+    pub body: &'a [u8],
+}
+
+// A receive that passed the checks before its body is looked at: the clock and the settings are in their ranges, and the cache is well-formed.
+#[derive(Clone, Copy)]
+pub struct Checked<'a> {
+    pub brought: Brought,
+    pub cache: Cache<'a>,
+    pub key: &'a [u8],
+    pub mic: &'a [u8],
+    pub body: &'a [u8],
+    ghost reading: { brought.reading.0 ≤ 2 ^ 48 },
+    ghost deadline: { brought.settings.deadline.0 ≤ 10000 },
+}
+
+// Why a first frame is refused: the steps 1 to 11, in order.
+#[derive(Clone, Copy, PartialEq, Eq)]
 pub enum Refusal {
     IllFormed,
     Wrapped,
@@ -47,45 +71,54 @@ pub enum Refusal {
     TableFull,
 }
 
-pub fn status_of(why: Refusal) -> u16
-    ensures { result ≡ (terms_of why).status }
-{
-    match why {
-        Refusal::IllFormed => 40,
-        Refusal::Wrapped => 1,
-        Refusal::GroupCipher => 41,
-        Refusal::PairwiseCipher => 42,
-        Refusal::Akm => 43,
-        Refusal::Unprotected => 45,
-        Refusal::Group => 77,
-        Refusal::KeyForm => 40,
-        Refusal::Point => 1,
-        Refusal::Pmkid => 53,
-        Refusal::TableFull => 30,
+impl Refusal {
+    pub fn status(self) -> u16
+        ensures { result ≡ (terms_of self).status }
+    {
+        match self {
+            Refusal::IllFormed => 40,
+            Refusal::Wrapped => 1,
+            Refusal::GroupCipher => 41,
+            Refusal::PairwiseCipher => 42,
+            Refusal::Akm => 43,
+            Refusal::Unprotected => 45,
+            Refusal::Group => 77,
+            Refusal::KeyForm => 40,
+            Refusal::Point => 1,
+            Refusal::Pmkid => 53,
+            Refusal::TableFull => 30,
+        }
+    }
+
+    // Whether a refusal leaves a waiting record.
+    pub fn spares(self) -> bool
+        ensures { result ≡ (terms_of self).spares }
+    {
+        match self {
+            Refusal::TableFull => true,
+            _ => false,
+        }
     }
 }
 
-// Whether a refusal leaves a waiting record.
-pub fn spares(why: Refusal) -> bool
-    ensures { result ≡ (terms_of why).spares }
-{
-    match why {
-        Refusal::IllFormed => false,
-        Refusal::Wrapped => false,
-        Refusal::GroupCipher => false,
-        Refusal::PairwiseCipher => false,
-        Refusal::Akm => false,
-        Refusal::Unprotected => false,
-        Refusal::Group => false,
-        Refusal::KeyForm => false,
-        Refusal::Point => false,
-        Refusal::Pmkid => false,
-        Refusal::TableFull => true,
-    }
+// What steps 2 to 6 show.
+#[derive(Clone, Copy)]
+pub struct Suites {
+    pub cipher: u8,
+    pub akm: Akm,
+}
+
+// What a first frame that passes the steps comes to: what was agreed, with the PMKID (zeros where there is none), the MIC's length, and the group.
+#[derive(Clone, Copy)]
+pub struct Passed {
+    pub agreed: Agreed,
+    pub pmkid: [u8; 16],
+    pub mic: usize,
+    pub group: Group,
 }
 
 // What a receive answers.
-#[derive(Clone, Copy)]
+#[derive(Clone, Copy, PartialEq, Eq)]
 pub enum Answer {
     Accepted,
     ClockOut,
@@ -105,32 +138,34 @@ pub enum Answer {
     Installed,
 }
 
-// The answer's number in document 01.
-pub fn answer_number(answer: Answer) -> u8
-    ensures { result ≡ answer_number answer }
-{
-    match answer {
-        Answer::Accepted => 0,
-        Answer::ClockOut => 1,
-        Answer::BufferShort => 2,
-        Answer::SettingsOut => 3,
-        Answer::GroupAddress => 4,
-        Answer::CacheIll => 5,
-        Answer::OwnKey => 6,
-        Answer::BodyLength => 7,
-        Answer::Algorithm => 8,
-        Answer::Transaction => 9,
-        Answer::PeerInstalled => 10,
-        Answer::Refused(_) => 11,
-        Answer::StatusNotZero => 12,
-        Answer::NoExchange => 13,
-        Answer::ThirdRefused => 14,
-        Answer::Installed => 15,
+// The answer's number in document 01, and so of a removal and a look-up.
+impl From<Answer> for u8 {
+    ghost from_gives = { λ answer n. n ≡ answer_number answer };
+
+    fn from(answer: Answer) -> u8 {
+        match answer {
+            Answer::Accepted => 0,
+            Answer::ClockOut => 1,
+            Answer::BufferShort => 2,
+            Answer::SettingsOut => 3,
+            Answer::GroupAddress => 4,
+            Answer::CacheIll => 5,
+            Answer::OwnKey => 6,
+            Answer::BodyLength => 7,
+            Answer::Algorithm => 8,
+            Answer::Transaction => 9,
+            Answer::PeerInstalled => 10,
+            Answer::Refused(_) => 11,
+            Answer::StatusNotZero => 12,
+            Answer::NoExchange => 13,
+            Answer::ThirdRefused => 14,
+            Answer::Installed => 15,
+        }
     }
 }
 
 // What a removal answers, and what a look-up.
-#[derive(Clone, Copy)]
+#[derive(Clone, Copy, PartialEq, Eq)]
 pub enum Removal {
     ClockOut,
     GroupAddress,
@@ -138,7 +173,7 @@ pub enum Removal {
     Removed,
 }
 
-#[derive(Clone, Copy)]
+#[derive(Clone, Copy, PartialEq, Eq)]
 pub enum LookUp {
     ClockOut,
     GroupAddress,
@@ -146,25 +181,29 @@ pub enum LookUp {
     Shown,
 }
 
-pub fn removal_number(answer: Removal) -> u8
-    ensures { result ≡ removal_number answer }
-{
-    match answer {
-        Removal::ClockOut => 1,
-        Removal::GroupAddress => 4,
-        Removal::NoRecord => 17,
-        Removal::Removed => 16,
+impl From<Removal> for u8 {
+    ghost from_gives = { λ answer n. n ≡ removal_number answer };
+
+    fn from(answer: Removal) -> u8 {
+        match answer {
+            Removal::ClockOut => 1,
+            Removal::GroupAddress => 4,
+            Removal::NoRecord => 17,
+            Removal::Removed => 16,
+        }
     }
 }
 
-pub fn look_number(answer: LookUp) -> u8
-    ensures { result ≡ look_number answer }
-{
-    match answer {
-        LookUp::ClockOut => 1,
-        LookUp::GroupAddress => 4,
-        LookUp::NoRecord => 17,
-        LookUp::Shown => 18,
+impl From<LookUp> for u8 {
+    ghost from_gives = { λ answer n. n ≡ look_number answer };
+
+    fn from(answer: LookUp) -> u8 {
+        match answer {
+            LookUp::ClockOut => 1,
+            LookUp::GroupAddress => 4,
+            LookUp::NoRecord => 17,
+            LookUp::Shown => 18,
+        }
     }
 }
 
@@ -173,26 +212,26 @@ pub fn look_number(answer: LookUp) -> u8
 pub enum Leaves {
     Same,
     Gone,
-    Becomes(Agreed, Phase),
+    Becomes(Peer),
 }
 
-// What a frame gets: the answer, the octets of the reply, and what it leaves of the record. `pmkid` is that of the record that it `Becomes`, else zeros.
+// What a frame gets: the answer, the octets of the reply, and what it leaves of the record.
 #[derive(Clone, Copy)]
 pub struct Verdict {
     pub answer: Answer,
     pub length: usize,
     pub leaves: Leaves,
-    pub pmkid: [u8; 16],
 }
 
-// A verdict that writes nothing and makes no record.
-pub fn silent(answer: Answer, leaves: Leaves) -> Verdict
-    ensures { result ≡ record { answer = answer; length = 0; leaves = leaves; pmkid = replicate 16 0 } }
-{
-    Verdict {
-        answer: answer,
-        length: 0,
-        leaves: leaves,
-        pmkid: [0; 16],
+impl Verdict {
+    // One that writes nothing.
+    pub fn silent(answer: Answer, leaves: Leaves) -> Verdict
+        ensures { result ≡ record { answer = answer; length = 0; leaves = leaves } }
+    {
+        Verdict {
+            answer,
+            length: 0,
+            leaves,
+        }
     }
 }

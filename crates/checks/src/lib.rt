@@ -1,12 +1,15 @@
 // The checks of a call before the records and the frame are looked at: the answers 1 to 5.
 #![tactic(auto)]
 
-ghost use Rattle.std.specs.Prelude.{◌≡◌};
+ghost use Rattle.std.specs.Prelude.{◌≡◌, IfSome};
 ghost use Rattle.rules.specs.OnePeer.{clock_fits, settings_fit, is_group_address, checks};
-ghost use Rattle.checks.specs.Checked.{failure, asked_of};
+ghost use Rattle.rules.specs.declared.LookUp.{LookUp};
+ghost use Rattle.rules.specs.declared.Removal.{Removal};
+ghost use Rattle.checks.specs.Checked.{Checks, barred_of, removal_of, look_up_of};
 
-use rules::{Answer, Brought, Settings};
-use units::Tu;
+use cache::Cache;
+use rules::{Answer, Checked, Incoming, LookUp, Removal, Settings};
+use units::{Seconds, Tu};
 use writers::second::LONGEST;
 
 // The reply buffer has room for the longest second frame.
@@ -15,25 +18,16 @@ const SMALLEST_BUFFER: usize = LONGEST;
 fn clock_fits(latest: Tu, reading: Tu) -> bool
     ensures { result ≡ clock_fits latest reading }
 {
-    if latest.0 <= reading.0 {
-        return units::in_clock(reading);
-    }
-    false
+    latest <= reading && reading.in_clock()
 }
 
 fn settings_fit(s: Settings) -> bool
     ensures { result ≡ settings_fit s }
 {
-    let lifetime = s.lifetime;
-    let deadline = s.deadline;
-    if 0 < lifetime.0 {
-        if lifetime.0 <= 86400 {
-            if 0 < deadline.0 {
-                return deadline.0 <= 10000;
-            }
-        }
-    }
-    false
+    Seconds(0) < s.lifetime
+        && s.lifetime <= Seconds(86400)
+        && Tu(0) < s.deadline
+        && s.deadline <= Tu(10000)
 }
 
 fn is_group_address(address: [u8; 6]) -> bool
@@ -42,53 +36,73 @@ fn is_group_address(address: [u8; 6]) -> bool
     address[0] % 2 == 1
 }
 
-#[derive(Clone, Copy)]
-pub enum Checked {
-    Passed,
-    Failed(Answer),
-}
-
 // What a receive is checked for, in the order of the answers.
-pub fn check_call(latest: Tu, brought: Brought, file: &[u8], room: usize) -> Checked
-    ensures { failure result ≡ checks latest brought file.now room }
+pub fn check_call(latest: Tu, call: Incoming, room: usize) -> Result<Checked, Answer>
+    ensures { Checks latest call room result }
 {
-    let settings = brought.settings;
-    let address = brought.address;
-    let reading = brought.reading;
-    if !clock_fits(latest, reading) {
-        return Checked::Failed(Answer::ClockOut);
+    let brought = call.brought;
+    if !clock_fits(latest, brought.reading) {
+        return Err(Answer::ClockOut);
     }
     if room < SMALLEST_BUFFER {
-        return Checked::Failed(Answer::BufferShort);
+        return Err(Answer::BufferShort);
     }
-    if !settings_fit(settings) {
-        return Checked::Failed(Answer::SettingsOut);
+    if !settings_fit(brought.settings) {
+        return Err(Answer::SettingsOut);
     }
-    if is_group_address(address) {
-        return Checked::Failed(Answer::GroupAddress);
+    if is_group_address(brought.address) {
+        return Err(Answer::GroupAddress);
     }
-    if !cache::is_well_formed(file) {
-        return Checked::Failed(Answer::CacheIll);
-    }
-    Checked::Passed
+    let Some(cache) = Cache::read(call.cache) else {
+        return Err(Answer::CacheIll);
+    };
+    Ok(Checked {
+        brought,
+        cache,
+        key: call.key,
+        mic: call.mic,
+        body: call.body,
+    })
 }
 
-// What a removal and a look-up are checked for.
+// Why a removal or a look-up does not come to the records.
 #[derive(Clone, Copy)]
-pub enum Asked {
-    Passed,
+pub enum Barred {
     ClockOut,
     GroupAddress,
 }
 
-pub fn check_address(latest: Tu, address: [u8; 6], reading: Tu) -> Asked
-    ensures { result ≡ asked_of latest reading address }
+impl From<Barred> for Removal {
+    ghost from_gives = { λ barred answer. answer ≡ removal_of barred };
+
+    fn from(barred: Barred) -> Removal {
+        match barred {
+            Barred::ClockOut => Removal::ClockOut,
+            Barred::GroupAddress => Removal::GroupAddress,
+        }
+    }
+}
+
+impl From<Barred> for LookUp {
+    ghost from_gives = { λ barred answer. answer ≡ look_up_of barred };
+
+    fn from(barred: Barred) -> LookUp {
+        match barred {
+            Barred::ClockOut => LookUp::ClockOut,
+            Barred::GroupAddress => LookUp::GroupAddress,
+        }
+    }
+}
+
+// What a removal and a look-up are checked for.
+pub fn check_address(latest: Tu, address: [u8; 6], reading: Tu) -> Result<(), Barred>
+    ensures { result ≡ barred_of latest reading address }
 {
     if !clock_fits(latest, reading) {
-        return Asked::ClockOut;
+        return Err(Barred::ClockOut);
     }
     if is_group_address(address) {
-        return Asked::GroupAddress;
+        return Err(Barred::GroupAddress);
     }
-    Asked::Passed
+    Ok(())
 }

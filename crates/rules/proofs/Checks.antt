@@ -15,7 +15,6 @@ use Rattle.rules.specs.declared.Answer.{Answer}
 use Rattle.rules.specs.declared.Brought.{Brought}
 use Rattle.rules.specs.declared.Settings.{Settings}
 use Rattle.rules.specs.OnePeer.{answer_number, is_early, clock_fits, smallest_buffer, settings_fit, is_group_address, checks}
-use Rattle.rules.specs.Told.{Ready}
 
 pub record SettingsRange (s : Settings) : Type 0 where
   pub some_second : 0 < s.lifetime.0
@@ -68,15 +67,18 @@ module _ (latest : Tu) (brought : Brought) (cache : List ℕ) (room : ℕ) where
   pub checks_early : {answer : Answer} → checks latest brought cache room ≡ Some answer → is_early (answer_number answer) ≡ true
   checks_early e = subst Tells e tells
 
-  pub checks_ready : checks latest brought cache room ≡ None → Ready brought cache room
+  -- the reading is a clock's, the deadline one of the settings', and the buffer has room
+  pub record Ready : Type 0 where
+    pub reading : brought.reading.0 ≤ 2 ^ 48
+    pub deadline : brought.settings.deadline.0 ≤ 10000
+    pub room : smallest_buffer ≤ room
+
+  pub checks_ready : checks latest brought cache room ≡ None → Ready
   checks_ready e =
       let c = checks_pass e in
       record {
-        timely = record {
-          reading = leb-true brought.reading.0 (2 ^ 48) (both (leb latest.0 brought.reading.0) (in_clock brought.reading) c.clock).1;
-          deadline = (settings_range brought.settings c.settings).deadline;
-        };
-        formed = c.formed;
+        reading = leb-true brought.reading.0 (2 ^ 48) (both (leb latest.0 brought.reading.0) (in_clock brought.reading) c.clock).1;
+        deadline = (settings_range brought.settings c.settings).deadline;
         room = c.buffer;
       }
 

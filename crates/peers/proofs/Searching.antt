@@ -2,23 +2,23 @@
 use Prim.Native.Nat.{ℕ, suc, ◌+◌, ◌≤◌, ◌<◌}
 use mathlib.Core.Path.{◌≡◌, refl, sym, ◌∙◌}
 use mathlib.Core.Bool.{Bool, true, false, ◌&&◌, not, and-true, and-false}
-use mathlib.Core.List.{List, map}
+use mathlib.Core.List.{List}
+use Rattle.std.specs.Prelude.{None}
 use native.Mathlib.Numerals.{add-one}
 use native.Mathlib.Omega.{arith}
-use lib.ListN.{length, get_or, drop, length-map, drop_of_length-le}
+use lib.ListN.{length, get_or, drop, drop_of_length-le}
 use lib.Seq.{drop-cons}
 use Rattle.std.specs.List.{find, list_all}
 use Rattle.octets.proofs.Search.{first_stops, first_goes, first_ends}
 use Rattle.units.specs.declared.Tu.{Tu}
 use Rattle.peers.specs.declared.Peer.{Peer}
 use Rattle.peers.specs.declared.Table.{Table}
+use Rattle.peers.specs.declared.Found.{Found}
+use Rattle.peers.specs.declared.Found.TheVariants.{At}
 use Rattle.peers.specs.View.{live, is_of, own, shows, no_peer}
-use Rattle.peers.specs.Promises.{FoundAt, Missing}
+use Rattle.peers.specs.Promises.{IsPlace, shown_at, is_full, Finds}
 use Rattle.peers.proofs.Promised.{taken, full_taken}
-
--- an array has its length: what the rules tell is of the list of its elements' machine values
-pub long : (X Y : Type 0) (f : X → Y) (l : List X) (n : ℕ) → length (map f l) ≡ n → length l ≡ n
-long X Y f l n e = sym (length-map l f) ∙ e
+use Rattle.peers.proofs.Laws.{full_shown}
 
 -- no place before i has a live record of the address, and `free` tells whether one of them has no live record
 pub record Searched (t : Table) (a : List ℕ) (n : Tu) (free : Bool) (i : ℕ) : Type 0 where
@@ -34,9 +34,11 @@ module _ {t : Table} {a : List ℕ} {n : Tu} {free : Bool} {i : ℕ} (w : Search
   here = get_or t.peers i no_peer
 
   module _ (h : i < 16) where
-    pub searched_stops : live here n ≡ true → is_of here a ≡ true → FoundAt t a n i
+    pub searched_stops : live here n ≡ true → is_of here a ≡ true → Finds t a n (At i)
     unfolding shows
-    searched_stops d e = record { place = h; shown = first_stops (own n a) t.peers i no_peer (omega (arith, w.places)) (rw (e, d)) w.passed }
+    searched_stops d e =
+        let s = first_stops (own n a) t.peers i no_peer (omega (arith, w.places)) (rw (e, d)) w.passed in
+        record { place = h; shown = s; filled = full_shown t n a s }
 
     -- a place that is not this address's
     goes : own n a here ≡ false → (after : Bool) → ((rest : Bool) → not free && (taken n a here && rest) ≡ not after && rest) → Searched t a n after (i + 1)
@@ -52,9 +54,14 @@ module _ {t : Table} {a : List ℕ} {n : Tu} {free : Bool} {i : ℕ} (w : Search
     pub searched_free : live here n ≡ false → Searched t a n true (i + 1)
     searched_free d = goes (rw d (and-false (is_of here a))) true (λ rest. rw d (and-false (not free)))
 
-  pub searched_all : 16 ≤ i → Missing t a n (not free)
+  -- the answer at the end, by whether a place was free
+  pub searched_all : {found : Found} → 16 ≤ i → shown_at t found ≡ None → is_full found ≡ not free → IsPlace found → Finds t a n found
   unfolding shows
-  searched_all h = record {
-    nobody = first_ends (own n a) t.peers i (omega (arith, w.places)) w.passed;
-    filled = full_taken n a t w.places ∙ w.filled ∙ rw (drop_of_length-le t.peers {i = i} (omega (arith, w.places))) (and-true (not free));
+  searched_all h none told place = record {
+    place = place;
+    shown = first_ends (own n a) t.peers i (omega (arith, w.places)) w.passed ∙ sym none;
+    filled = full_taken n a t w.places
+        ∙ w.filled
+        ∙ rw (drop_of_length-le t.peers {i = i} (omega (arith, w.places))) (and-true (not free))
+        ∙ sym told;
   }

@@ -14,21 +14,6 @@ pub record Nobody (r : Table) : Type 0 where
   pub counted : (n : Tu) (these : List (List ℕ)) → others r n these ≡ 0
   pub latest : r.latest ≡ record { 0 = 0 }
 
--- the record shown stands at the place i
-pub record FoundAt (t : Table) (a : List ℕ) (n : Tu) (i : ℕ) : Type 0 where
-  pub place : i < 16
-  pub shown : shows t n a ≡ Some (peer_at t i)
-
--- no record is shown, and the table is full or not, as told
-pub record Missing (t : Table) (a : List ℕ) (n : Tu) (told : Bool) : Type 0 where
-  pub nobody : shows t n a ≡ None
-  pub filled : full t n a ≡ told
-
-abbrev pub Finds : Table → List ℕ → Tu → Found → Type 0
-Finds t a n (At i) = FoundAt t a n i
-Finds t a n Free = Missing t a n false
-Finds t a n Full = Missing t a n true
-
 -- the place that was found is one of the sixteen
 abbrev pub IsPlace : Found → Type 0
 IsPlace (At i) = i < 16
@@ -40,6 +25,17 @@ abbrev pub shown_at : Table → Found → Option Peer
 shown_at t (At i) = Some (peer_at t i)
 shown_at t Free = None
 shown_at t Full = None
+
+abbrev pub is_full : Found → Bool
+is_full (At i) = false
+is_full Free = false
+is_full Full = true
+
+-- the record that is shown stands at the place found, and the table is full or not, as told
+pub record Finds (t : Table) (a : List ℕ) (n : Tu) (found : Found) : Type 0 where
+  pub place : IsPlace found
+  pub shown : shows t n a ≡ shown_at t found
+  pub filled : full t n a ≡ is_full found
 
 -- a record, while it is live
 abbrev pub while_live : Peer → Tu → Option Peer

@@ -4,7 +4,7 @@
 ghost use Rattle.std.specs.Prelude.{ℕ, ◌≡◌, ◌<◌, [], ◌∷◌, length};
 ghost use Rattle.peers.specs.declared.Table.{Table};
 ghost use Rattle.peers.specs.View.{until, live, is_of, other, peer_at, stored, dated, vacant_peer};
-ghost use Rattle.peers.specs.Promises.{Nobody, Finds, IsPlace, shown_at, Puts, Drops};
+ghost use Rattle.peers.specs.Promises.{Nobody, Finds, IsPlace, shown_at, is_full, Puts, Drops};
 
 use units::{Seconds, Tu};
 
@@ -176,6 +176,17 @@ pub enum Found {
     At(usize),
     Free,
     Full,
+}
+
+impl Found {
+    pub fn is_full(self) -> bool
+        ensures { result ≡ is_full self }
+    {
+        match self {
+            Found::Full => true,
+            _ => false,
+        }
+    }
 }
 
 // One pass: the place of the record that is shown for the address, or whether a place is free.

@@ -10,7 +10,7 @@ use Rattle.peers.specs.declared.Phase.{Phase}
 use Rattle.peers.specs.declared.Phase.TheVariants.{Waiting, Installed}
 use Rattle.peers.specs.declared.Peer.{Peer}
 use Rattle.peers.specs.declared.Table.{Table}
-use Rattle.peers.specs.View.{count, shows, others, full, vacant_peer}
+use Rattle.peers.specs.View.{shows, others, full, vacant_peer}
 
 abbrev tu : ℕ → Tu
 tu n = record { 0 = n }
@@ -46,7 +46,7 @@ unfolding shows
 none_shown = refl
 
 pub one_other : others two (tu 9) (address 1 ∷ []) ≡ 1
-unfolding others count
+unfolding others
 one_other = refl
 
 -- a vacant place shows no record, not of its own octets either
@@ -60,18 +60,18 @@ crowd zero = []
 crowd (suc k) = peer k (Waiting (tu 10)) ∷ crowd k
 
 pub full_for_another : full (table (crowd 16)) (tu 9) (address 16) ≡ true
-unfolding full shows others count
+unfolding full shows others
 full_for_another = refl
 
 pub room_for_each : full (table (crowd 16)) (tu 9) (address 15) ≡ false
-unfolding full shows others count
+unfolding full shows others
 room_for_each = refl
 
 pub room_beside_15 : full (table (vacant_peer ∷ crowd 15)) (tu 9) (address 16) ≡ false
-unfolding full shows others count
+unfolding full shows others
 room_beside_15 = refl
 
 -- an expired record's place is free
 pub room_for_an_expired_one : full (table (peer 15 (Installed (tu 9)) ∷ crowd 15)) (tu 9) (address 16) ≡ false
-unfolding full shows others count
+unfolding full shows others
 room_for_an_expired_one = refl

@@ -9,11 +9,12 @@ use native.Mathlib.Omega.{arith}
 use lib.ListN.{length, get_or, take, drop, set, length-set, drop_of_length-le}
 use lib.Seq.{drop-cons, take_all, take-suc-set, drop-set-lt, append_snoc, set-get_or}
 use Rattle.std.specs.Prelude.{if◌then◌else◌}
-use Rattle.std.specs.List.{find, list_all}
+use Rattle.std.specs.List.{find, list_all, count_by}
 use Rattle.octets.proofs.Logic.{both}
 use Rattle.peers.specs.declared.Peer.{Peer}
 use Rattle.peers.specs.declared.Table.{Table}
-use Rattle.peers.specs.View.{count, vacant_peer, no_peer}
+use Rattle.peers.specs.View.{vacant_peer, no_peer}
+use Rattle.peers.proofs.Counting.{count_step}
 
 module _ (keep : Peer → Bool) where
   unfoldable pub fill : Peer → List Peer → List Peer
@@ -112,22 +113,22 @@ module _ (keep : Peer → Bool) where
   -- What g counts is what f counted, and the record stored: they agree on the records kept, and f counts none that makes way.
   module _ (f g : Peer → Bool) (nobody : g vacant_peer ≡ false) (stays : (q : Peer) → keep q ≡ true → g q ≡ f q)
       (goes : (q : Peer) → keep q ≡ false → f q ≡ false) where
-    pub count_cleared : (qs : List Peer) → count g (fill vacant_peer qs) ≡ count f qs
-    unfolding fill count
+    pub count_cleared : (qs : List Peer) → count_by g (fill vacant_peer qs) ≡ count_by f qs
+    unfolding fill
     count_cleared [] = refl
-    count_cleared (q ∷ qs) = go (count_cleared qs) (keep q) refl
+    count_cleared (q ∷ qs) = rw (count_step f q qs) (go (count_cleared qs) (keep q) refl)
       where
-        go : count g (fill vacant_peer qs) ≡ count f qs → (b : Bool) → keep q ≡ b
-            → count g (if b then q ∷ fill vacant_peer qs else vacant_peer ∷ fill vacant_peer qs) ≡ (if f q then 1 else 0) + count f qs
-        go ih true k = rw (stays q k, ih)
-        go ih false k = rw (nobody, goes q k) (omega arith)
+        go : count_by g (fill vacant_peer qs) ≡ count_by f qs → (b : Bool) → keep q ≡ b
+            → count_by g (if b then q ∷ fill vacant_peer qs else vacant_peer ∷ fill vacant_peer qs) ≡ (if f q then 1 else 0) + count_by f qs
+        go ih true k = rw (count_step g q (fill vacant_peer qs), stays q k, ih)
+        go ih false k = rw (count_step g vacant_peer (fill vacant_peer qs), nobody, goes q k) (omega arith)
 
-    pub count_stored : (p : Peer) (qs : List Peer) → list_all keep qs ≡ false → count g (fill p qs) ≡ count f qs + (if g p then 1 else 0)
-    unfolding fill count
+    pub count_stored : (p : Peer) (qs : List Peer) → list_all keep qs ≡ false → count_by g (fill p qs) ≡ count_by f qs + (if g p then 1 else 0)
+    unfolding fill
     count_stored p [] e = absurd (false≢true (sym e))
-    count_stored p (q ∷ qs) e = go (count_stored p qs) (keep q) refl e
+    count_stored p (q ∷ qs) e = rw (count_step f q qs) (go (count_stored p qs) (keep q) refl e)
       where
-        go : (list_all keep qs ≡ false → count g (fill p qs) ≡ count f qs + (if g p then 1 else 0)) → (b : Bool) → keep q ≡ b → b && list_all keep qs ≡ false
-            → count g (if b then q ∷ fill p qs else p ∷ fill vacant_peer qs) ≡ (if f q then 1 else 0) + count f qs + (if g p then 1 else 0)
-        go ih true k e = rw (stays q k) (omega (arith, ih e))
-        go ih false k e = rw (goes q k, count_cleared qs) (omega arith)
+        go : (list_all keep qs ≡ false → count_by g (fill p qs) ≡ count_by f qs + (if g p then 1 else 0)) → (b : Bool) → keep q ≡ b → b && list_all keep qs ≡ false
+            → count_by g (if b then q ∷ fill p qs else p ∷ fill vacant_peer qs) ≡ (if f q then 1 else 0) + count_by f qs + (if g p then 1 else 0)
+        go ih true k e = rw (count_step g q (fill p qs), stays q k) (omega (arith, ih e))
+        go ih false k e = rw (count_step g p (fill vacant_peer qs), goes q k, count_cleared qs) (omega arith)

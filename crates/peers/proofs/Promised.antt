@@ -9,12 +9,12 @@ use Rattle.std.specs.Prelude.{is_none}
 use lib.Dec.{eqb}
 use lib.ListN.{length, replicate}
 use borrow.Author.Tests.{eq-eqb, ne_eqb, not-true, not-false}
-use Rattle.std.specs.List.{find, list_all}
+use Rattle.std.specs.List.{find, list_all, count_by}
 use Rattle.octets.proofs.Logic.{both}
 use Rattle.units.specs.declared.Tu.{Tu}
 use Rattle.peers.specs.declared.Peer.{Peer}
 use Rattle.peers.specs.declared.Table.{Table}
-use Rattle.peers.specs.View.{live, is_of, own, other, count, shows, others, full, vacant_peer}
+use Rattle.peers.specs.View.{live, is_of, own, other, shows, others, full, vacant_peer}
 use Rattle.peers.specs.Promises.{Nobody, Puts, Drops}
 use Rattle.peers.proofs.Counting.{count_all, count_fewer, first_none, first_repeated, count_repeated}
 use Rattle.peers.proofs.Filling.{fill, fill_none}
@@ -43,7 +43,7 @@ module _ (a : List ℕ) where
   unfolding shows others
   drops t u e l = record {
     shown = λ m b. ap (find (own m b)) e ∙ clear_shows elsewhere a m elsewhere_stays (elsewhere_goes m) b t.peers;
-    counted = λ m these. ap (count (other m these)) e ∙ clear_counts elsewhere a m elsewhere_stays (elsewhere_goes m) these t.peers;
+    counted = λ m these. ap (count_by (other m these)) e ∙ clear_counts elsewhere a m elsewhere_stays (elsewhere_goes m) these t.peers;
     latest = l;
   }
 
@@ -72,10 +72,10 @@ module _ (n : Tu) (a : List ℕ) where
         misses : (q : Peer) → taken q ≡ true → own n a q ≡ false
         misses q k = rw (taken_stays q k)
 
-        go : (x : Bool) → list_all taken t.peers ≡ x → (is_none (find (own n a) t.peers) && eqb (count taken t.peers) 16) ≡ x
-        go true e = rw (first_none taken (own n a) misses t.peers e, eq-eqb (count taken t.peers) 16 (count_all taken t.peers e ∙ l))
+        go : (x : Bool) → list_all taken t.peers ≡ x → (is_none (find (own n a) t.peers) && eqb (count_by taken t.peers) 16) ≡ x
+        go true e = rw (first_none taken (own n a) misses t.peers e, eq-eqb (count_by taken t.peers) 16 (count_all taken t.peers e ∙ l))
         go false e =
-            rw (ne_eqb (count taken t.peers) 16 (λ k. omega (arith, count_fewer taken t.peers e))) (and-false (is_none (find (own n a) t.peers)))
+            rw (ne_eqb (count_by taken t.peers) 16 (λ k. omega (arith, count_fewer taken t.peers e))) (and-false (is_none (find (own n a) t.peers)))
 
 module _ (t : Table) (l : length t.peers ≡ 16) (p : Peer) where
   abbrev n : Tu
@@ -92,7 +92,7 @@ module _ (t : Table) (l : length t.peers ≡ 16) (p : Peer) where
   puts u e k = record {
     kept = λ f. ap₂ (λ (ps : List Peer) (x : Tu). record { peers = ps; latest = x }) (e ∙ fill_none keep p t.peers (kept_all f)) k;
     shown = λ f m h b. ap (find (own m b)) e ∙ fill_shows keep p.address m stays (goes m h) b p t.peers refl (kept_all f);
-    counted = λ f m h these. ap (count (other m these)) e ∙ fill_counts keep p.address m stays (goes m h) these p t.peers (kept_all f);
+    counted = λ f m h these. ap (count_by (other m these)) e ∙ fill_counts keep p.address m stays (goes m h) these p t.peers (kept_all f);
     latest = k;
   }
     where

@@ -9,11 +9,11 @@ use native.Mathlib.Omega.{arith}
 use borrow.Author.Tests.{le-ltb, ltb-false}
 use Rattle.std.specs.Prelude.{if◌then◌else◌}
 use Rattle.octets.specs.Equality.{same_octets}
-use Rattle.std.specs.List.{find, list_all}
+use Rattle.std.specs.List.{find, list_all, count_by}
 use Rattle.octets.proofs.Equality.{same_eq}
 use Rattle.units.specs.declared.Tu.{Tu}
 use Rattle.peers.specs.declared.Peer.{Peer}
-use Rattle.peers.specs.View.{until, live, is_of, own, other, count, vacant_peer}
+use Rattle.peers.specs.View.{until, live, is_of, own, other, vacant_peer}
 use Rattle.peers.specs.Promises.{while_live}
 use Rattle.peers.proofs.Filling.{fill, first_others, first_cleared, first_stored, count_cleared, count_stored}
 
@@ -64,8 +64,8 @@ module _ (keep : Peer → Bool) (a : List ℕ) (m : Tu) (stays : (q : Peer) → 
     other_goes q k = ⊎_elim (λ i. rw i (and-false (live q m))) (λ d. rw d) (goes q k)
 
     pub fill_counts : (p : Peer) (qs : List Peer) → list_all keep qs ≡ false
-        → count (other m these) (fill keep p qs) ≡ count (other m (a ∷ these)) qs + (if other m these p then 1 else 0)
+        → count_by (other m these) (fill keep p qs) ≡ count_by (other m (a ∷ these)) qs + (if other m these p then 1 else 0)
     fill_counts = count_stored keep (other m (a ∷ these)) (other m these) (vacant_other m these) other_stays other_goes
 
-    pub clear_counts : (qs : List Peer) → count (other m these) (fill keep vacant_peer qs) ≡ count (other m (a ∷ these)) qs
+    pub clear_counts : (qs : List Peer) → count_by (other m these) (fill keep vacant_peer qs) ≡ count_by (other m (a ∷ these)) qs
     clear_counts = count_cleared keep (other m (a ∷ these)) (other m these) (vacant_other m these) other_stays other_goes

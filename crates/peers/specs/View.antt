@@ -1,6 +1,6 @@
 -- What a table shows at a clock reading: which records are live, and never where they stand.
-use Rattle.std.specs.Prelude.{ℕ, ◌+◌, Bool, false, ◌&&◌, not, List, [], ◌∷◌, eqb, ltb, get_or, set, replicate, if◌then◌else◌, Option, is_none}
-use Rattle.std.specs.List.{find, list_all}
+use Rattle.std.specs.Prelude.{ℕ, Bool, false, ◌&&◌, not, List, [], ◌∷◌, eqb, ltb, get_or, set, replicate, Option, is_none}
+use Rattle.std.specs.List.{find, count_by, list_all}
 use Rattle.octets.specs.Equality.{same_octets}
 use Rattle.units.specs.declared.Tu.{Tu}
 use Rattle.peers.specs.declared.Agreed.{Agreed}
@@ -29,18 +29,13 @@ own n a p = is_of p a && live p n
 abbrev pub other : Tu → List (List ℕ) → Peer → Bool
 other n these p = live p n && list_all (λ a. not (is_of p a)) these
 
--- how many pass a test
-unfoldable pub count {ℓ} : {A : Type ℓ} → (A → Bool) → List A → ℕ
-count f [] = 0
-count f (x ∷ xs) = (if f x then 1 else 0) + count f xs
-
 -- The live record of an address, or none; were there two, the first.
 unfoldable pub shows : Table → Tu → List ℕ → Option Peer
 shows t n a = find (own n a) t.peers
 
 -- how many live records there are of addresses other than these
 unfoldable pub others : Table → Tu → List (List ℕ) → ℕ
-others t n these = count (other n these) t.peers
+others t n these = count_by (other n these) t.peers
 
 -- No live record of this address, and 16 live records of others.
 unfoldable pub full : Table → Tu → List ℕ → Bool

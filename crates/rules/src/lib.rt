@@ -2,7 +2,7 @@
 #![tactic(auto)]
 
 ghost use Rattle.std.specs.Prelude.{◌≡◌, ◌≤◌, ◌^◌};
-ghost use Rattle.rules.specs.OnePeer.{terms_of, answer_number, removal_number, look_number};
+ghost use Rattle.rules.specs.OnePeer.{terms_of, status_beside, answer_number, removal_number, look_number};
 
 use cache::Cache;
 use peers::{Agreed, Peer};
@@ -136,6 +136,18 @@ pub enum Answer {
     NoExchange,
     ThirdRefused,
     Installed,
+}
+
+impl Answer {
+    // The status beside it.
+    pub fn status(self) -> Option<u16>
+        ensures { result ≡ status_beside self }
+    {
+        match self {
+            Answer::Refused(why) => Some(why.status()),
+            _ => None,
+        }
+    }
 }
 
 // The answer's number in document 01, and so of a removal and a look-up.

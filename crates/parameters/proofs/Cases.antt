@@ -1,12 +1,11 @@
 -- Worked examples. The real octets are of a first frame that hostap's station wrote.
 use mathlib.Core.Path.{◌≡◌, refl}
 use mathlib.Core.List.{List, [], ◌∷◌, ◌++◌}
-use Rattle.std.specs.Prelude.{None, Some}
+use Rattle.std.specs.Prelude.{Option, None, Some}
 use Prim.Native.Nat.{ℕ}
 use Rattle.octets.specs.Numbers.{le, octets}
 use Rattle.parameters.specs.declared.Comeback.{Comeback}
 use Rattle.parameters.specs.declared.Offer.{Offer}
-use Rattle.parameters.specs.declared.Reading.{Reading as Parameters}
 use Rattle.parameters.specs.declared.Side.TheVariants.{Station, AccessPoint}
 use Rattle.parameters.specs.Parameters.{parameters_of, parameters_octets}
 
@@ -17,11 +16,11 @@ real_key =
     ∷ 0x11
     ∷ []
 
-abbrev key : ℕ → ℕ → Offer
-key start end = Offer.Key 19 (record { start = start; end = end })
+abbrev key : ℕ → ℕ → Option Offer
+key start end = Some (record { group = 19; key = record { start = start; end = end } })
 
 pub real_parameters_read : parameters_of Station ((0x02 ∷ 0x00 ∷ 0x13 ∷ 0x00 ∷ 0x21 ∷ []) ++ real_key)
-    ≡ Parameters.Is (record { comeback = Comeback.Absent; format = 0; offer = key 5 38 })
+    ≡ Some (record { comeback = None; format = 0; offer = key 5 38 })
 unfolding parameters_of le
 real_parameters_read = refl
 
@@ -34,7 +33,7 @@ abbrev with_cookie : List ℕ
 with_cookie = (3 ∷ 0 ∷ 2 ∷ 0xc0 ∷ 0xc1 ∷ 19 ∷ 0 ∷ 33 ∷ []) ++ real_key
 
 pub with_cookie_read : parameters_of Station with_cookie
-    ≡ Parameters.Is (record { comeback = Comeback.Cookie (record { start = 3; end = 5 }); format = 0; offer = key 8 41 })
+    ≡ Some (record { comeback = Some (Comeback.Cookie (record { start = 3; end = 5 })); format = 0; offer = key 8 41 })
 unfolding parameters_of le
 with_cookie_read = refl
 
@@ -48,7 +47,7 @@ abbrev come_back : List ℕ
 come_back = 1 ∷ 0 ∷ 0x2c ∷ 0x01 ∷ 2 ∷ 0xc0 ∷ 0xc1 ∷ []
 
 pub come_back_read : parameters_of AccessPoint come_back
-    ≡ Parameters.Is (record { comeback = Comeback.After 300 (record { start = 5; end = 7 }); format = 0; offer = Offer.Absent })
+    ≡ Some (record { comeback = Some (Comeback.After 300 (record { start = 5; end = 7 })); format = 0; offer = None })
 unfolding parameters_of le
 come_back_read = refl
 
@@ -58,16 +57,16 @@ unfolding parameters_octets octets
 come_back_written = refl
 
 -- from a station the first of these octets is the cookie's length
-pub come_back_from_a_station : parameters_of Station come_back ≡ Parameters.Ill
+pub come_back_from_a_station : parameters_of Station come_back ≡ None
 unfolding parameters_of
 come_back_from_a_station = refl
 
 pub rest_of_control_ignored : parameters_of Station ((0xfe ∷ 0 ∷ 19 ∷ 0 ∷ 33 ∷ []) ++ real_key)
-    ≡ Parameters.Is (record { comeback = Comeback.Absent; format = 0; offer = key 5 38 })
+    ≡ Some (record { comeback = None; format = 0; offer = key 5 38 })
 unfolding parameters_of le
 rest_of_control_ignored = refl
 
-pub neither : parameters_of Station (0 ∷ 0 ∷ []) ≡ Parameters.Is (record { comeback = Comeback.Absent; format = 0; offer = Offer.Absent })
+pub neither : parameters_of Station (0 ∷ 0 ∷ []) ≡ Some (record { comeback = None; format = 0; offer = None })
 unfolding parameters_of
 neither = refl
 
@@ -75,14 +74,14 @@ pub neither_written : parameters_octets Station (record { comeback = None; forma
 unfolding parameters_octets
 neither_written = refl
 
-pub beyond_nothing : parameters_of Station (0 ∷ 0 ∷ 7 ∷ []) ≡ Parameters.Ill
+pub beyond_nothing : parameters_of Station (0 ∷ 0 ∷ 7 ∷ []) ≡ None
 unfolding parameters_of
 beyond_nothing = refl
 
-pub beyond_the_key : parameters_of Station ((2 ∷ 0 ∷ 19 ∷ 0 ∷ 33 ∷ []) ++ real_key ++ (7 ∷ [])) ≡ Parameters.Ill
+pub beyond_the_key : parameters_of Station ((2 ∷ 0 ∷ 19 ∷ 0 ∷ 33 ∷ []) ++ real_key ++ (7 ∷ [])) ≡ None
 unfolding parameters_of
 beyond_the_key = refl
 
-pub cookie_past_the_end : parameters_of Station (1 ∷ 0 ∷ 3 ∷ 0xc0 ∷ 0xc1 ∷ []) ≡ Parameters.Ill
+pub cookie_past_the_end : parameters_of Station (1 ∷ 0 ∷ 3 ∷ 0xc0 ∷ 0xc1 ∷ []) ≡ None
 unfolding parameters_of
 cookie_past_the_end = refl

@@ -1,51 +1,41 @@
 -- Laws by which PASN Parameters are read and written, and where what is read lies in the content.
 use mathlib.Core.Path.{◌≡◌, refl, ap₂}
-use mathlib.Core.Bool.{not}
 use mathlib.Core.List.{List, [], ◌∷◌, ◌++◌, append_assoc}
-use Rattle.std.specs.Prelude.{Option, None, Some}
+use Rattle.std.specs.Prelude.{Option, None, Some, IfSome, if◌then◌else◌}
 use Prim.Native.Nat.{ℕ, ◌+◌, ◌-◌, ◌*◌, ◌≤◌}
 use native.Mathlib.Omega.{arith}
-use borrow.Author.Tests.{ltb-false, leb-false}
-use lib.Dec.{leb, ltb, eqb}
+use lib.Dec.{ltb}
 use lib.ListN.{length, drop, get_or, length-append}
+use Rattle.octets.specs.Maybe.{◌>>=◌}
 use Rattle.octets.specs.Numbers.{octets}
 use Rattle.octets.specs.Wrote.{Wrote}
-use Rattle.octets.proofs.Choice.{either_way, unless}
 use Rattle.octets.proofs.Writers.{wrote_over}
-use Rattle.elements.specs.declared.Part.{Part}
 use Rattle.elements.specs.Lies.{Lies}
 use Rattle.parameters.specs.declared.Side.{Side}
 use Rattle.parameters.specs.declared.Side.TheVariants.{Station, AccessPoint}
 use Rattle.parameters.specs.declared.Comeback.{Comeback}
 use Rattle.parameters.specs.declared.Offer.{Offer}
 use Rattle.parameters.specs.declared.Parameters.{Parameters}
-use Rattle.parameters.specs.declared.Reading.{Reading}
-use Rattle.parameters.specs.declared.Reading.TheVariants.{Is, Ill}
 use Rattle.parameters.specs.declared.ComebackToWrite.{ComebackToWrite}
-use Rattle.parameters.specs.declared.OfferToWrite.{OfferToWrite}
 use Rattle.parameters.specs.declared.ToWrite.{ToWrite}
-use Rattle.parameters.specs.Parameters.{bit0, bit1, offer_from, after_width, comeback_of, parameters_of, Said, comeback_octets, offer_octets, bit, control, content_octets, parameters_octets, parameters_size, comeback_by, offer_by, said_by}
-
-pub after_width_most : (side : Side) → after_width side ≤ 2
-after_width_most Station = omega arith
-after_width_most AccessPoint = omega arith
+use Rattle.parameters.specs.Parameters.{comeback_from, offer_from, parameters_of, Said, comeback_octets, offer_octets, bit, control, content_octets, parameters_octets, parameters_size, comeback_by, offer_by, said_by}
 
 pub bit_most : {A : Type 0} (o : Option A) → bit o ≤ 1
 bit_most None = omega arith
 bit_most (Some x) = omega arith
 
 -- the control octet looks at no octets of a cookie or a key
-pub control_by : (written : ToWrite) (cookie key : List ℕ) → bit (comeback_by written.comeback []) + 2 * bit (offer_by written.offer []) ≡ control (said_by written cookie key)
+pub control_by : (written : ToWrite) (cookie key : List ℕ) → bit written.comeback + 2 * bit written.offer ≡ control (said_by written cookie key)
 control_by written cookie key = ap₂ (λ (m n : ℕ). m + 2 * n) (comeback written.comeback) (offer written.offer)
   where
-    comeback : (k : ComebackToWrite) → bit (comeback_by k []) ≡ bit (comeback_by k cookie)
-    comeback ComebackToWrite.Cookie = refl
-    comeback (ComebackToWrite.After after) = refl
-    comeback ComebackToWrite.Absent = refl
+    comeback : (k : Option ComebackToWrite) → bit k ≡ bit (comeback_by k cookie)
+    comeback (Some ComebackToWrite.Cookie) = refl
+    comeback (Some (ComebackToWrite.After after)) = refl
+    comeback None = refl
 
-    offer : (k : OfferToWrite) → bit (offer_by k []) ≡ bit (offer_by k key)
-    offer (OfferToWrite.Key group) = refl
-    offer OfferToWrite.Absent = refl
+    offer : (k : Option ℕ) → bit k ≡ bit (offer_by k key)
+    offer (Some group) = refl
+    offer None = refl
 
 module _ (side : Side) (said : Said side) where
   pub length_content : length (content_octets side said) ≡ length (comeback_octets side said.comeback) + length (offer_octets said.offer) + 2
@@ -90,50 +80,57 @@ length_come_back format after cookie =
     omega (arith, length_parameters AccessPoint said, length_content AccessPoint said)
 
 -- Each part of what was read lies in a content of n octets.
-abbrev pub ComebackLies : ℕ → Comeback → Type 0
-ComebackLies n (Comeback.Cookie cookie) = Lies 0 n cookie
-ComebackLies n (Comeback.After after cookie) = Lies 0 n cookie
-ComebackLies n Comeback.Absent = Unit {0}
+abbrev pub ComebackLies : ℕ → Option Comeback → Type 0
+ComebackLies n (Some (Comeback.Cookie cookie)) = Lies 0 n cookie
+ComebackLies n (Some (Comeback.After after cookie)) = Lies 0 n cookie
+ComebackLies n None = Unit {0}
 
-abbrev pub OfferLies : ℕ → Offer → Type 0
-OfferLies n (Offer.Key group key) = Lies 0 n key
-OfferLies n Offer.Absent = Unit {0}
+abbrev pub OfferLies : ℕ → Option Offer → Type 0
+OfferLies n offer = IfSome offer (λ o. Lies 0 n o.key)
 
 pub record PartsLie (n : ℕ) (r : Parameters) : Type 0 where
   pub comeback : ComebackLies n r.comeback
   pub offer : OfferLies n r.offer
 
-module _ (s : List ℕ) where
-  abbrev Lie : Reading → Type 0
-  Lie (Is r) = PartsLie (length s) r
-  Lie Ill = Unit {0}
+-- What comes with B0 ends in the content.
+pub comeback_ends : (side : Side) (s : List ℕ) {comeback : Option Comeback} {at : ℕ} → 2 ≤ length s → comeback_from side s ≡ Some (comeback, at) → (2 ≤ at) × (at ≤ length s)
+unfolding comeback_from
+comeback_ends side s two e = (grind arith, grind arith)
 
-  offer_lies : (at : ℕ) (comeback : Comeback) → at ≤ length s → ComebackLies (length s) comeback → Lie (offer_from s at comeback)
-  unfolding offer_from
-  offer_lies at comeback h cookie =
-      either_way Lie (eqb (bit1 s) 0)
-      (λ without. unless Lie (not (eqb (length s) at)) tt λ ends. record { comeback = cookie; offer = tt })
-      (λ with.
-      unless Lie (ltb (length s - at) 3) tt λ long.
-      let key : Lies 0 (length s) (record { start = at + 3; end = length s }) = record { long = omega (arith, ltb-false (length s - at) 3 long); within = omega arith } in
-      unless Lie (not (eqb (length s - (at + 3)) (get_or s (at + 2) 0))) tt λ ends. record { comeback = cookie; offer = key })
+comeback_lies : (side : Side) (s : List ℕ) (comeback : Option Comeback) {at : ℕ} → comeback_from side s ≡ Some (comeback, at) → ComebackLies (length s) comeback
+unfolding comeback_from
+comeback_lies side s None e = tt
+comeback_lies Station s (Some (Comeback.Cookie cookie)) e = record { long = grind arith; within = grind arith }
+comeback_lies AccessPoint s (Some (Comeback.Cookie cookie)) e = record { long = grind arith; within = grind arith }
+comeback_lies Station s (Some (Comeback.After after cookie)) e = record { long = grind arith; within = grind arith }
+comeback_lies AccessPoint s (Some (Comeback.After after cookie)) e = record { long = grind arith; within = grind arith }
 
-  cookie_lies : (side : Side) {cookie : Part} → Lies 0 (length s) cookie → ComebackLies (length s) (comeback_of side s cookie)
-  cookie_lies Station l = l
-  cookie_lies AccessPoint l = l
+offer_lies : (s : List ℕ) (at : ℕ) (offer : Option Offer) → offer_from s at ≡ Some offer → OfferLies (length s) offer
+unfolding offer_from
+offer_lies s at None e = tt
+offer_lies s at (Some o) e = record { long = grind arith; within = grind arith }
 
-  lie : (side : Side) → Lie (parameters_of side s)
-  unfolding parameters_of
-  lie side =
-      let at : ℕ = 2 + after_width side in
-      unless Lie (ltb (length s) 2) tt λ long.
-      either_way Lie (eqb (bit0 s) 0)
-      (λ without. offer_lies 2 Comeback.Absent (ltb-false (length s) 2 long) tt)
-      (λ with.
-      unless Lie (leb (length s) at) tt λ longer.
-      unless Lie (ltb (length s - (at + 1)) (get_or s at 0)) tt λ fits.
-      let end : at + 1 + get_or s at 0 ≤ length s = omega (arith, leb-false (length s) at longer, ltb-false (length s - (at + 1)) (get_or s at 0) fits) in
-      offer_lies (at + 1 + get_or s at 0) _ end (cookie_lies side (record { long = omega arith; within = end })))
+-- What reads well, in its two steps.
+pub record Read (side : Side) (s : List ℕ) (r : Parameters) : Type 0 where
+  pub two : 2 ≤ length s
+  pub at : ℕ
+  pub comeback : comeback_from side s ≡ Some (r.comeback, at)
+  pub format : r.format ≡ get_or s 1 0
+  pub offer : offer_from s at ≡ Some r.offer
 
-  pub parts_lie : (side : Side) {r : Parameters} → parameters_of side s ≡ Is r → PartsLie (length s) r
-  parts_lie side e = rw e at (lie side)
+pub reads_well : (side : Side) (s : List ℕ) (r : Parameters) → parameters_of side s ≡ Some r → Read side s r
+unfolding parameters_of
+reads_well side s r e = go (comeback_from side s) refl e
+  where
+    go : (k : Option (Option Comeback × ℕ)) → comeback_from side s ≡ k
+        → (if ltb (length s) 2 then None
+        else k >>= λ p. offer_from s p.1 >>= λ o. Some (record { comeback = p.0; format = get_or s 1 0; offer = o }))
+        ≡ Some r
+        → Read side s r
+    go None is e = absurd (grind arith)
+    go (Some (comeback, at)) is e = record { two = grind arith; at = at; comeback = grind arith; format = grind arith; offer = grind arith }
+
+pub parts_lie : (s : List ℕ) (side : Side) {r : Parameters} → parameters_of side s ≡ Some r → PartsLie (length s) r
+parts_lie s side e =
+    let w = reads_well _ _ _ e in
+    record { comeback = comeback_lies side s _ w.comeback; offer = offer_lies s _ _ w.offer }

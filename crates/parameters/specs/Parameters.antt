@@ -1,18 +1,17 @@
 -- PASN Parameters after the extension ID: control (B0 comeback, B1 group and key, the rest ignored on reading and written 0), wrapped format, with B0
 -- Comeback After (2 octets from an access point, none from a station), a cookie length octet and the cookie, with B1 group (2), key length (1), key.
 -- No octets beyond.
-use Rattle.std.specs.Prelude.{ℕ, ◌+◌, ◌-◌, ◌*◌, ◌/◌, ◌%◌, ◌≤◌, not, List, [], ◌∷◌, ◌++◌, leb, ltb, eqb, length, get_or, if◌then◌else◌}
-use Rattle.std.specs.Prelude.{Option, None, Some}
+use Rattle.std.specs.Prelude.{ℕ, ◌+◌, ◌*◌, ◌/◌, ◌%◌, ◌≤◌, Option, None, Some, List, [], ◌∷◌, ◌++◌, leb, ltb, eqb, length, get_or, if◌then◌else◌}
+use Rattle.std.specs.Option.{option_map}
+use Rattle.octets.specs.Maybe.{◌>>=◌}
 use Rattle.octets.specs.Numbers.{le, octets}
 use Rattle.elements.specs.declared.Part.{Part}
 use Rattle.parameters.specs.declared.Side.{Side}
 use Rattle.parameters.specs.declared.Side.TheVariants.{Station, AccessPoint}
 use Rattle.parameters.specs.declared.Comeback.{Comeback}
 use Rattle.parameters.specs.declared.Offer.{Offer}
-use Rattle.parameters.specs.declared.Reading.{Reading}
-use Rattle.parameters.specs.declared.Reading.TheVariants.{Is, Ill}
+use Rattle.parameters.specs.declared.Parameters.{Parameters}
 use Rattle.parameters.specs.declared.ComebackToWrite.{ComebackToWrite}
-use Rattle.parameters.specs.declared.OfferToWrite.{OfferToWrite}
 use Rattle.parameters.specs.declared.ToWrite.{ToWrite}
 
 -- the bits B0 and B1 of the control octet
@@ -21,16 +20,6 @@ bit0 s = get_or s 0 0 % 2
 
 abbrev pub bit1 : List ℕ → ℕ
 bit1 s = get_or s 0 0 / 2 % 2
-
--- what comes with B1, from a place on
-unfoldable pub offer_from : List ℕ → ℕ → Comeback → Reading
-offer_from s at comeback =
-    if eqb (bit1 s) 0 then
-    (if not (eqb (length s) at) then Ill
-    else Is (record { comeback = comeback; format = get_or s 1 0; offer = Offer.Absent }))
-    else (if ltb (length s - at) 3 then Ill
-    else (if not (eqb (length s - (at + 3)) (get_or s (at + 2) 0)) then Ill
-    else Is (record { comeback = comeback; format = get_or s 1 0; offer = Offer.Key (le 2 s at) (record { start = at + 3; end = length s }) })))
 
 -- the octets of Comeback After
 abbrev pub after_width : Side → ℕ
@@ -42,21 +31,37 @@ abbrev pub comeback_of : Side → List ℕ → Part → Comeback
 comeback_of Station s cookie = Comeback.Cookie cookie
 comeback_of AccessPoint s cookie = Comeback.After (le 2 s 2) cookie
 
--- what comes with B0, where the cookie's length octet stands at a place, and then what comes with B1
-unfoldable pub comeback_from : Side → List ℕ → ℕ → Reading
-unfolding offer_from
-comeback_from side s at =
-    if leb (length s) at then Ill
-    else (if ltb (length s - (at + 1)) (get_or s at 0) then Ill
-    else offer_from s (at + 1 + get_or s at 0) (comeback_of side s (record { start = at + 1; end = at + 1 + get_or s at 0 })))
+-- with B0, where the cookie's length octet stands at a place: what comes with it, and the place after
+abbrev pub cookie_from : Side → List ℕ → ℕ → Option (Option Comeback × ℕ)
+cookie_from side s at =
+    if leb (at + 1 + get_or s at 0) (length s) then
+    Some (Some (comeback_of side s (record { start = at + 1; end = at + 1 + get_or s at 0 })), at + 1 + get_or s at 0)
+    else None
+
+-- what comes with B0, and the place after it
+unfoldable pub comeback_from : Side → List ℕ → Option (Option Comeback × ℕ)
+comeback_from side s =
+    if eqb (bit0 s) 0 then Some (None, 2)
+    else cookie_from side s (2 + after_width side)
+
+-- what comes with B1, from a place on to the end
+unfoldable pub offer_from : List ℕ → ℕ → Option (Option Offer)
+offer_from s at =
+    if eqb (bit1 s) 0 then (if eqb (length s) at then Some None else None)
+    else (if eqb (length s) (at + 3 + get_or s (at + 2) 0) then Some (Some (record { group = le 2 s at; key = record { start = at + 3; end = length s } }))
+    else None)
+
+-- what both say
+abbrev pub read_from : Side → List ℕ → Option Parameters
+read_from side s = do
+  (comeback, at) ← comeback_from side s
+  offer ← offer_from s at
+  Some (record { comeback = comeback; format = get_or s 1 0; offer = offer })
 
 -- by who wrote them
-unfoldable pub parameters_of : Side → List ℕ → Reading
-unfolding comeback_from
-parameters_of side s =
-    if ltb (length s) 2 then Ill
-    else (if eqb (bit0 s) 0 then offer_from s 2 Comeback.Absent
-    else comeback_from side s (2 + after_width side))
+unfoldable pub parameters_of : Side → List ℕ → Option Parameters
+unfolding comeback_from offer_from
+parameters_of side s = if ltb (length s) 2 then None else read_from side s
 
 -- What comes with B0, octets and all: from a station a cookie, from an access point Comeback After and a cookie.
 abbrev pub WithB0 : Side → Type 0
@@ -106,19 +111,18 @@ abbrev pub parameters_size : ℕ
 parameters_size = 8
 
 -- What the code is to write, as what is said. Who writes so is told by what comes with B0; without it both sides write alike.
-abbrev pub side_of : ComebackToWrite → Side
-side_of ComebackToWrite.Cookie = Station
-side_of (ComebackToWrite.After after) = AccessPoint
-side_of ComebackToWrite.Absent = AccessPoint
+abbrev pub side_of : Option ComebackToWrite → Side
+side_of (Some ComebackToWrite.Cookie) = Station
+side_of (Some (ComebackToWrite.After after)) = AccessPoint
+side_of None = AccessPoint
 
-abbrev pub comeback_by : (comeback : ComebackToWrite) → List ℕ → Option (WithB0 (side_of comeback))
-comeback_by ComebackToWrite.Cookie cookie = Some cookie
-comeback_by (ComebackToWrite.After after) cookie = Some (after, cookie)
-comeback_by ComebackToWrite.Absent cookie = None
+abbrev pub comeback_by : (comeback : Option ComebackToWrite) → List ℕ → Option (WithB0 (side_of comeback))
+comeback_by (Some ComebackToWrite.Cookie) cookie = Some cookie
+comeback_by (Some (ComebackToWrite.After after)) cookie = Some (after, cookie)
+comeback_by None cookie = None
 
-abbrev pub offer_by : OfferToWrite → List ℕ → Option (ℕ × List ℕ)
-offer_by (OfferToWrite.Key group) key = Some (group, key)
-offer_by OfferToWrite.Absent key = None
+abbrev pub offer_by : Option ℕ → List ℕ → Option (ℕ × List ℕ)
+offer_by offer key = option_map (λ group. (group, key)) offer
 
 abbrev pub said_by : (written : ToWrite) → List ℕ → List ℕ → Said (side_of written.comeback)
 said_by written cookie key = record {

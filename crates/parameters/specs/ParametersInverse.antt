@@ -1,24 +1,23 @@
 -- Reading PASN Parameters and writing them undo each other.
-use Rattle.std.specs.Prelude.{ℕ, ◌+◌, ◌-◌, ◌%◌, ◌^◌, ◌<◌, ◌≡◌, List, ◌∷◌, length, take, drop, get_or}
-use Rattle.std.specs.Prelude.{Option, None, Some}
-use Rattle.elements.specs.declared.Part.{Part}
+use Rattle.std.specs.Prelude.{ℕ, ◌+◌, ◌%◌, ◌^◌, ◌<◌, ◌≡◌, Option, None, Some, List, ◌∷◌, length, drop, get_or}
+use Rattle.std.specs.Option.{option_map}
+use Rattle.elements.specs.Lies.{content}
 use Rattle.parameters.specs.declared.Side.{Side}
 use Rattle.parameters.specs.declared.Side.TheVariants.{Station, AccessPoint}
 use Rattle.parameters.specs.declared.Comeback.{Comeback}
 use Rattle.parameters.specs.declared.Offer.{Offer}
 use Rattle.parameters.specs.declared.Parameters.{Parameters}
-use Rattle.parameters.specs.declared.Reading.TheVariants.{Is}
 use Rattle.parameters.specs.Parameters.{parameters_of, WithB0, Said, comeback_octets, content_octets}
 
 -- where what is said stands in the content
-abbrev pub comeback_placed : (side : Side) → Option (WithB0 side) → Comeback
-comeback_placed side None = Comeback.Absent
-comeback_placed Station (Some cookie) = Comeback.Cookie (record { start = 3; end = 3 + length cookie })
-comeback_placed AccessPoint (Some (after, cookie)) = Comeback.After after (record { start = 5; end = 5 + length cookie })
+abbrev pub comeback_placed : (side : Side) → Option (WithB0 side) → Option Comeback
+comeback_placed side None = None
+comeback_placed Station (Some cookie) = Some (Comeback.Cookie (record { start = 3; end = 3 + length cookie }))
+comeback_placed AccessPoint (Some (after, cookie)) = Some (Comeback.After after (record { start = 5; end = 5 + length cookie }))
 
-abbrev pub offer_placed : ℕ → Option (ℕ × List ℕ) → Offer
-offer_placed at None = Offer.Absent
-offer_placed at (Some (group, key)) = Offer.Key group (record { start = at + 3; end = at + 3 + length key })
+abbrev pub offer_placed : ℕ → Option (ℕ × List ℕ) → Option Offer
+offer_placed at None = None
+offer_placed at (Some (group, key)) = Some (record { group = group; key = record { start = at + 3; end = at + 3 + length key } })
 
 abbrev pub placed : (side : Side) → Said side → Parameters
 placed side said = record {
@@ -28,19 +27,15 @@ placed side said = record {
 }
 
 -- what a reading of a content says, octets and all: no station's cookie stands in an access point's element, and the other way round
-abbrev octets_in : List ℕ → Part → List ℕ
-octets_in s p = take (p.end - p.start) (drop p.start s)
+abbrev pub comeback_in : (side : Side) → List ℕ → Option Comeback → Option (WithB0 side)
+comeback_in side s None = None
+comeback_in Station s (Some (Comeback.Cookie cookie)) = Some (content s cookie)
+comeback_in Station s (Some (Comeback.After after cookie)) = None
+comeback_in AccessPoint s (Some (Comeback.Cookie cookie)) = None
+comeback_in AccessPoint s (Some (Comeback.After after cookie)) = Some (after, content s cookie)
 
-abbrev pub comeback_in : (side : Side) → List ℕ → Comeback → Option (WithB0 side)
-comeback_in side s Comeback.Absent = None
-comeback_in Station s (Comeback.Cookie cookie) = Some (octets_in s cookie)
-comeback_in Station s (Comeback.After after cookie) = None
-comeback_in AccessPoint s (Comeback.Cookie cookie) = None
-comeback_in AccessPoint s (Comeback.After after cookie) = Some (after, octets_in s cookie)
-
-abbrev pub offer_in : List ℕ → Offer → Option (ℕ × List ℕ)
-offer_in s (Offer.Key group key) = Some (group, octets_in s key)
-offer_in s Offer.Absent = None
+abbrev pub offer_in : List ℕ → Option Offer → Option (ℕ × List ℕ)
+offer_in s offer = option_map (λ o. (o.group, content s o.key)) offer
 
 abbrev pub said_in : (side : Side) → List ℕ → Parameters → Said side
 said_in side s p = record { comeback = comeback_in side s p.comeback; format = p.format; offer = offer_in s p.offer }
@@ -57,7 +52,7 @@ GroupFits (Some (group, key)) = group < 2 ^ 16
 
 -- What is written reads back.
 pub record ReadsBack (side : Side) (said : Said side) : Type 0 where
-  pub reads : parameters_of side (content_octets side said) ≡ Is (placed side said)
+  pub reads : parameters_of side (content_octets side said) ≡ Some (placed side said)
   pub says : said_in side (content_octets side said) (placed side said) ≡ said
 
 abbrev pub WhatIsWrittenReadsBack : Type 0
@@ -70,4 +65,4 @@ plain s = get_or s 0 0 % 4 ∷ drop 1 s
 abbrev pub WhatIsReadWasWritten : Type 0
 WhatIsReadWasWritten =
     (side : Side) (s : List ℕ) → ((i : ℕ) → get_or s i 0 < 256)
-    → (p : Parameters) → parameters_of side s ≡ Is p → plain s ≡ content_octets side (said_in side s p)
+    → (p : Parameters) → parameters_of side s ≡ Some p → plain s ≡ content_octets side (said_in side s p)

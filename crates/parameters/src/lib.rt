@@ -1,18 +1,31 @@
 // PASN Parameters, read from the octet after the extension ID on, and written whole.
 #![tactic(auto)]
 
-ghost use Rattle.std.specs.Prelude.{◌≡◌, [], ◌++◌, ◌+◌, ◌≤◌, ◌<◌, length};
+ghost use Rattle.std.specs.Prelude.{◌≡◌, ◌++◌, ◌+◌, ◌*◌, ◌≤◌, ◌<◌, length};
 ghost use Rattle.octets.specs.Numbers.{octets};
 ghost use Rattle.octets.specs.Wrote.{Wrote};
-ghost use Rattle.parameters.specs.Parameters.{after_width, comeback_of, offer_from, parameters_of, counted, comeback_octets, offer_octets, bit, parameters_octets, side_of, comeback_by, offer_by, said_by, Fits};
+ghost use Rattle.parameters.specs.Parameters.{after_width, comeback_from, offer_from, parameters_of, counted, comeback_octets, offer_octets, bit, parameters_octets, side_of, comeback_by, offer_by, said_by, Fits};
 
 use elements::Part;
+use octets::Number;
 
 // Who wrote the element.
-#[derive(Clone, Copy)]
+#[derive(Clone, Copy, PartialEq, Eq)]
 pub enum Side {
     Station,
     AccessPoint,
+}
+
+impl Side {
+    // The octets of Comeback After.
+    fn after_width(self) -> usize
+        ensures { result ≡ after_width self }
+    {
+        match self {
+            Side::Station => 0,
+            Side::AccessPoint => 2,
+        }
+    }
 }
 
 // What comes with control bit B0: a station's cookie, or an access point's Comeback After (in TU) and cookie.
@@ -20,113 +33,84 @@ pub enum Side {
 pub enum Comeback {
     Cookie(Part),
     After(u16, Part),
-    Absent,
 }
 
 // What comes with control bit B1: a group, and a public key of it.
 #[derive(Clone, Copy)]
-pub enum Offer {
-    Key(u16, Part),
-    Absent,
+pub struct Offer {
+    pub group: u16,
+    pub key: Part,
 }
 
 #[derive(Clone, Copy)]
 pub struct Parameters {
-    pub comeback: Comeback,
+    pub comeback: Option<Comeback>,
     pub format: u8,
-    pub offer: Offer,
+    pub offer: Option<Offer>,
 }
 
-#[derive(Clone, Copy)]
-pub enum Reading {
-    Is(Parameters),
-    Ill,
-}
-
-fn read_offer(content: &[u8], at: usize, comeback: Comeback) -> Reading
-    requires { (2 ≤ at) × (at ≤ length content.now) }
-    ensures { result ≡ offer_from content.now at comeback }
+// What comes with B0, and the place after it.
+#[tactic(auto, unfolding(crate::specs::Parameters::comeback_from))]
+fn read_comeback(content: &[u8], side: Side) -> Option<(Option<Comeback>, usize)>
+    requires { 2 ≤ length content.now }
+    ensures { result ≡ comeback_from side content.now }
 {
-    let format = content[1];
-    if content[0] / 2 % 2 == 0 {
-        if content.len() != at {
-            return Reading::Ill;
-        }
-        return Reading::Is(Parameters {
-            comeback: comeback,
-            format: format,
-            offer: Offer::Absent,
-        });
+    if content[0] % 2 == 0 {
+        return Some((None, 2));
     }
-    if content.len() - at < 3 {
-        return Reading::Ill;
+    let at = 2 + side.after_width();
+    if content.len() <= at {
+        return None;
+    }
+    let start = at + 1;
+    let end = start + content[at] as usize;
+    if content.len() < end {
+        return None;
+    }
+    let cookie = Part { start, end };
+    match side {
+        Side::Station => Some((Some(Comeback::Cookie(cookie)), end)),
+        Side::AccessPoint => Some((Some(Comeback::After(u16::read_le(content, 2), cookie)), end)),
+    }
+}
+
+// What comes with B1, from `at` on to the end.
+#[tactic(auto, unfolding(crate::specs::Parameters::offer_from))]
+fn read_offer(content: &[u8], at: usize) -> Option<Option<Offer>>
+    requires { (2 ≤ at) × (at ≤ length content.now) }
+    ensures { result ≡ offer_from content.now at }
+{
+    let end = content.len();
+    if content[0] / 2 % 2 == 0 {
+        return if end == at { Some(None) } else { None };
+    }
+    if end - at < 3 {
+        return None;
     }
     let start = at + 3;
-    if content.len() - start != content[at + 2] as usize {
-        return Reading::Ill;
+    if end - start != content[at + 2] as usize {
+        return None;
     }
-    let group = octets::le2(content, at);
-    Reading::Is(Parameters {
-        comeback: comeback,
-        format: format,
-        offer: Offer::Key(
-            group,
-            Part {
-                start: start,
-                end: content.len(),
-            },
-        ),
-    })
+    Some(Some(Offer {
+        group: u16::read_le(content, at),
+        key: Part { start, end },
+    }))
 }
 
-// The octets of Comeback After.
-fn after_width(side: Side) -> usize
-    ensures { result ≡ after_width side }
-{
-    match side {
-        Side::Station => 0,
-        Side::AccessPoint => 2,
-    }
-}
-
-fn comeback_of(content: &[u8], side: Side, cookie: Part) -> Comeback
-    requires { 2 + after_width side ≤ length content.now }
-    ensures { result ≡ comeback_of side content.now cookie }
-{
-    match side {
-        Side::Station => Comeback::Cookie(cookie),
-        Side::AccessPoint => Comeback::After(octets::le2(content, 2), cookie),
-    }
-}
-
-pub fn read(content: &[u8], side: Side) -> Reading
+#[tactic(auto, unfolding(crate::specs::Parameters::parameters_of))]
+pub fn read(content: &[u8], side: Side) -> Option<Parameters>
     ensures { result ≡ parameters_of side content.now }
 {
     if content.len() < 2 {
-        return Reading::Ill;
+        return None;
     }
-    if content[0] % 2 == 0 {
-        return read_offer(content, 2, Comeback::Absent);
-    }
-    let at = 2 + after_width(side);
-    if content.len() <= at {
-        return Reading::Ill;
-    }
-    let start = at + 1;
-    let cookie = content[at] as usize;
-    if content.len() - start < cookie {
-        return Reading::Ill;
-    }
-    let end = start + cookie;
-    let comeback = comeback_of(
-        content,
-        side,
-        Part {
-            start: start,
-            end: end,
-        },
-    );
-    read_offer(content, end, comeback)
+    let (comeback, at) = read_comeback(content, side)?;
+    let offer = read_offer(content, at)?;
+    Some(Parameters {
+        comeback,
+        format: content[1],
+        offer,
+    })
 }
 
 // What is written with B0, beside the cookie's octets.
@@ -134,21 +118,23 @@ pub fn read(content: &[u8], side: Side) -> Reading
 pub enum ComebackToWrite {
     Cookie,
     After(u16),
-    Absent,
 }
 
-// What is written with B1, beside the key's octets.
-#[derive(Clone, Copy)]
-pub enum OfferToWrite {
-    Key(u16),
-    Absent,
-}
-
+// What is written, beside the octets of the cookie and of the key: with B1 the key's group.
 #[derive(Clone, Copy)]
 pub struct ToWrite {
-    pub comeback: ComebackToWrite,
+    pub comeback: Option<ComebackToWrite>,
     pub format: u8,
-    pub offer: OfferToWrite,
+    pub offer: Option<u16>,
+}
+
+impl ToWrite {
+    // The control octet: each bit is set if something comes with it.
+    fn control(self) -> u8
+        ensures { result ≡ bit self.comeback + 2 * bit self.offer }
+    {
+        u8::from(self.comeback.is_some()) + 2 * u8::from(self.offer.is_some())
+    }
 }
 
 // A length octet, and the octets.
@@ -165,48 +151,28 @@ fn put_numbered(d: &mut [u8], n: u16, s: &[u8]) -> usize
     requires { (length s.now < 256) × (length s.now + 3 ≤ length d.old) }
     ensures { Wrote (octets 2 n ++ counted s.now) result d.old d.new }
 {
-    let head = octets::put_le2(d, n);
+    let head = n.put_le(d);
     head + put_counted(&mut d[head..], s)
 }
 
-fn put_comeback(d: &mut [u8], comeback: ComebackToWrite, cookie: &[u8]) -> usize
+fn put_comeback(d: &mut [u8], comeback: Option<ComebackToWrite>, cookie: &[u8]) -> usize
     requires { Fits 255 (comeback_octets (side_of comeback) (comeback_by comeback cookie.now)) (length d.old) }
     ensures { Wrote (comeback_octets (side_of comeback) (comeback_by comeback cookie.now)) result d.old d.new }
 {
+    let Some(comeback) = comeback else { return 0 };
     match comeback {
-        ComebackToWrite::Absent => 0,
         ComebackToWrite::Cookie => put_counted(d, cookie),
         ComebackToWrite::After(after) => put_numbered(d, after, cookie),
     }
 }
 
-fn put_offer(d: &mut [u8], offer: OfferToWrite, key: &[u8]) -> usize
+fn put_offer(d: &mut [u8], offer: Option<u16>, key: &[u8]) -> usize
     requires { Fits 255 (offer_octets (offer_by offer key.now)) (length d.old) }
     ensures { Wrote (offer_octets (offer_by offer key.now)) result d.old d.new }
 {
     match offer {
-        OfferToWrite::Absent => 0,
-        OfferToWrite::Key(group) => put_numbered(d, group, key),
-    }
-}
-
-// The control bits: each is set if something comes with it.
-fn b0_of(comeback: ComebackToWrite) -> u8
-    ensures { result ≡ bit (comeback_by comeback []) }
-{
-    match comeback {
-        ComebackToWrite::Absent => 0,
-        ComebackToWrite::Cookie => 1,
-        ComebackToWrite::After(_) => 1,
-    }
-}
-
-fn b1_of(offer: OfferToWrite) -> u8
-    ensures { result ≡ bit (offer_by offer []) }
-{
-    match offer {
-        OfferToWrite::Absent => 0,
-        OfferToWrite::Key(_) => 1,
+        None => 0,
+        Some(group) => put_numbered(d, group, key),
     }
 }
 
@@ -218,12 +184,12 @@ pub fn put(d: &mut [u8], written: ToWrite, cookie: &[u8], key: &[u8]) -> usize
     requires { Fits 257 (parameters_octets (side_of written.comeback) (said_by written cookie.now key.now)) (length d.old) }
     ensures { Wrote (parameters_octets (side_of written.comeback) (said_by written cookie.now key.now)) result d.old d.new }
 {
-    let comeback = written.comeback;
-    let offer = written.offer;
-    let control = b0_of(comeback) + 2 * b1_of(offer);
     let head = 5;
-    let b = head + put_comeback(&mut d[head..], comeback, cookie);
-    let end = b + put_offer(&mut d[b..], offer, key);
-    octets::copy_in(d, &[255, (end - 2) as u8, 100, control, written.format]);
+    let b = head + put_comeback(&mut d[head..], written.comeback, cookie);
+    let end = b + put_offer(&mut d[b..], written.offer, key);
+    octets::copy_in(
+        d,
+        &[255, (end - 2) as u8, 100, written.control(), written.format],
+    );
     end
 }

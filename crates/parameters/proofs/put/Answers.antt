@@ -1,6 +1,6 @@
-use mathlib.Core.List.{List, []}
-use mathlib.Core.Path.{ap₂, ◌∙◌}
-use Prim.Native.Nat.{ℕ, ◌+◌, ◌*◌, ◌-◌, ◌≤◌}
+use mathlib.Core.List.{List}
+use Prim.Native.Nat.{ℕ, ◌+◌, ◌-◌, ◌≤◌}
+use mathlib.Core.Path.{◌∙◌}
 use native.Mathlib.Omega.{arith}
 use lib.ListN.{length, take, drop}
 use borrow.Rule.Slice.PartMut.{put_mid}
@@ -8,8 +8,8 @@ use lib.Seq.{length-take-le}
 use Rattle.octets.specs.Wrote.{Wrote}
 use Rattle.octets.proofs.Parts.{Room, wrote_front, wrote_room, wrote_more}
 use Rattle.parameters.specs.declared.Side.{Side}
-use Rattle.parameters.specs.Parameters.{Said, Fits, parameters_octets, comeback_octets, offer_octets, side_of, comeback_by, offer_by, said_by}
-use Rattle.parameters.proofs.Laws.{bit_most, control_by, length_content, length_parameters, wrote_parameters}
+use Rattle.parameters.specs.Parameters.{Said, Fits, parameters_octets, comeback_octets, offer_octets, side_of, said_by}
+use Rattle.parameters.proofs.Laws.{control_by, length_content, length_parameters, wrote_parameters}
 use Rattle.parameters.proofs.put.Goals as goal
 
 -- The octets that come with B0 and with B1, and the five in front of them, fit the element and the buffer.
@@ -35,14 +35,6 @@ module _ (side : Side) (said : Said side) {d : List ℕ} (room : Fits 257 (param
       third_room : Room (wrote_more (wrote_more front w) v) 0
       third_room = wrote_room (wrote_more (wrote_more front w) v) 0 (omega (arith, (fits side said (length d) room).1, w.tells, v.tells))
 
-pub overflow_mul-control : goal.overflow_mul-control
-overflow_mul-control c = omega (arith, c.b1_of.ensures, bit_most (offer_by c.args.written.offer []))
-
-pub overflow_add-control : goal.overflow_add-control
-overflow_add-control c =
-    let w = c.args.written in
-    omega (arith, c.b0_of.ensures, bit_most (comeback_by w.comeback []), c.b1_of.ensures, bit_most (offer_by w.offer []))
-
 pub slice_bounds-put_comeback-start : goal.slice_bounds-put_comeback-start
 slice_bounds-put_comeback-start c =
     let f = fits _ _ _ c.requires in
@@ -57,11 +49,6 @@ put_comeback-requires c =
     let w = wrote_front c.args.d.now 5 (omega (arith, f.1)) in
     record { short = omega (arith, f.0); room = (wrote_room w _ (omega (arith, f.1))).room }
 
-pub overflow_add-b : goal.overflow_add-b
-overflow_add-b c =
-    let f = fits _ _ _ c.requires in
-    omega (arith, f.0, c.put_comeback.ensures.tells)
-
 pub slice_bounds-put_offer-start : goal.slice_bounds-put_offer-start
 slice_bounds-put_offer-start c = omega (arith, (second_room _ _ c.requires c.put_comeback.ensures).start)
 
@@ -71,9 +58,6 @@ slice_bounds-put_offer-count c = (second_room _ _ c.requires c.put_comeback.ensu
 pub put_offer-requires : goal.put_offer-requires
 put_offer-requires c =
     record { short = omega (arith, (fits _ _ _ c.requires).0); room = (second_room _ _ c.requires c.put_comeback.ensures).room }
-
-pub overflow_add-end : goal.overflow_add-end
-overflow_add-end c = omega (arith, (fits _ _ _ c.requires).0, c.put_comeback.ensures.tells, c.put_offer.ensures.tells)
 
 pub overflow_cast-end : goal.overflow_cast-end
 overflow_cast-end c = omega (arith, (fits _ _ _ c.requires).0, c.put_comeback.ensures.tells, c.put_offer.ensures.tells)
@@ -87,4 +71,4 @@ returns c =
     let f = fits _ _ _ c.requires in
     wrote_parameters (side_of w.comeback) (said_by w c.args.cookie.now c.args.key.now) (take 5 c.args.d.now) (length-take-le 5 c.args.d.now (omega (arith, f.1)))
     (wrote_more (wrote_more (front (side_of w.comeback) (said_by w c.args.cookie.now c.args.key.now) c.requires) c.put_comeback.ensures) c.put_offer.ensures) c.copy_in.ensures
-    (ap₂ (λ (m n : ℕ). m + 2 * n) c.b0_of.ensures c.b1_of.ensures ∙ control_by w c.args.cookie.now c.args.key.now)
+    (c.control.ensures ∙ control_by w c.args.cookie.now c.args.key.now)

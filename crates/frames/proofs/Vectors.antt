@@ -6,11 +6,9 @@ use Rattle.octets.specs.Numbers.{le}
 use Rattle.scan.specs.Scan.{scan_of}
 use Rattle.suites.specs.declared.Suite.TheVariants.{Ours}
 use Rattle.suites.specs.Suite.{suite_at}
-use Rattle.rsne.specs.declared.Only.TheVariants.{One}
 use Rattle.parameters.specs.Parameters.{parameters_of}
 use Rattle.rsne.specs.Rsne.{rsne_of}
 use Rattle.layouts.specs.Timeout.{timeout_of}
-use Rattle.frames.specs.declared.contents.Lifetime.{Lifetime}
 use Rattle.frames.specs.First.{first_of}
 use Rattle.frames.specs.Third.{third_of}
 
@@ -18,13 +16,13 @@ pub akm_8_cipher_4 : first_of (0x07 ∷ 0x00 ∷ 0x01 ∷ 0x00 ∷ 0x00 ∷ 0x00
     ≡ Some (record {
       rsne = record {
         group = Ours 7;
-        pairwise = One (Ours 4);
-        akm = One (Ours 8);
+        pairwise = Some (Ours 4);
+        akm = Some (Ours 8);
         capabilities = 0x00c0;
         pmkids = record { start = 30; end = 46 };
         management = Ours 7;
       };
-      lifetime = Lifetime.Asked (record { 0 = 600 });
+      lifetime = Some (record { 0 = 600 });
       format = 0;
       group = 19;
       key = record { start = 58; end = 91 };
@@ -40,13 +38,13 @@ pub akm_21_cipher_8 : first_of (0x07 ∷ 0x00 ∷ 0x01 ∷ 0x00 ∷ 0x00 ∷ 0x0
     ≡ Some (record {
       rsne = record {
         group = Ours 7;
-        pairwise = One (Ours 8);
-        akm = One (Ours 21);
+        pairwise = Some (Ours 8);
+        akm = Some (Ours 21);
         capabilities = 0x00c0;
         pmkids = record { start = 30; end = 30 };
         management = Ours 7;
       };
-      lifetime = Lifetime.Asked (record { 0 = 2400 });
+      lifetime = Some (record { 0 = 2400 });
       format = 0;
       group = 19;
       key = record { start = 42; end = 107 };
@@ -62,13 +60,13 @@ pub akm_5_cipher_4 : first_of (0x07 ∷ 0x00 ∷ 0x01 ∷ 0x00 ∷ 0x00 ∷ 0x00
     ≡ Some (record {
       rsne = record {
         group = Ours 7;
-        pairwise = One (Ours 4);
-        akm = One (Ours 5);
+        pairwise = Some (Ours 4);
+        akm = Some (Ours 5);
         capabilities = 0x00c0;
         pmkids = record { start = 30; end = 46 };
         management = Ours 7;
       };
-      lifetime = Lifetime.Asked (record { 0 = 3600 });
+      lifetime = Some (record { 0 = 3600 });
       format = 0;
       group = 19;
       key = record { start = 58; end = 91 };

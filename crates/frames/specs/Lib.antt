@@ -1,4 +1,3 @@
 pub mod Contents
 pub mod First
 pub mod Third
-pub mod ByElement

@@ -1,80 +1,45 @@
-// What the elements of a body say, by how often each stands there. Parts are places of the body.
-ghost use Rattle.std.specs.Prelude.{◌≡◌, length};
-ghost use Rattle.elements.specs.Lies.{Lies};
-ghost use Rattle.scan.specs.Within.{LiesIf};
+// What the elements of a body say. Parts are places of the body.
+ghost use Rattle.std.specs.Prelude.{◌≡◌, ◌+◌, ◌<◌, ◌^◌, length};
+ghost use Rattle.std.specs.Option.{ForSome};
+ghost use Rattle.elements.specs.Lies.{Lies, content};
 ghost use Rattle.parameters.specs.Parameters.{parameters_of};
-ghost use Rattle.frames.specs.Contents.{content, extended, is_rsne};
-ghost use Rattle.frames.specs.ByElement.{rsne_in, is_lifetime_reading, lifetime_in};
+ghost use Rattle.frames.specs.Contents.{shifted, extended, lifetime_at};
 
 use elements::Part;
 use layouts::timeout;
-use layouts::timeout::Timeout;
-use parameters::Side;
-use rsne::Rsne;
-use scan::Times;
+use parameters::{Parameters, Side};
 use units::Seconds;
 
-// The one RSNE.
-pub fn read_rsne(body: &[u8], t: Times) -> rsne::Reading
-    requires { LiesIf 0 (length body.now) t }
-    ensures { is_rsne result ≡ rsne_in body.now t }
+// A part of the part that starts at `at`, as a part of the whole.
+pub fn shifted(at: usize, part: Part) -> Part
+    requires { (at + part.start < 2 ^ 64) × (at + part.end < 2 ^ 64) }
+    ensures { result ≡ shifted at part }
 {
-    let Times::One(at) = t else {
-        return rsne::Reading::Ill;
-    };
-    let start = at.start;
-    let end = at.end;
-    let reading = rsne::read(&body[start..end]);
-    let rsne::Reading::Is(r) = reading else {
-        return rsne::Reading::Ill;
-    };
-    let pmkids = r.pmkids;
-    let here = Part {
-        start: start + pmkids.start,
-        end: start + pmkids.end,
-    };
-    rsne::Reading::Is(Rsne { pmkids: here, ..r })
-}
-
-// The key lifetime that a Timeout Interval asks for, where there is one.
-#[derive(Clone, Copy)]
-pub enum Lifetime {
-    Asked(Seconds),
-    Unasked,
-}
-
-#[derive(Clone, Copy)]
-pub enum LifetimeReading {
-    Is(Lifetime),
-    Ill,
-}
-
-// The Timeout Interval, of which there is at most one.
-pub fn read_lifetime(body: &[u8], t: Times) -> LifetimeReading
-    requires { LiesIf 0 (length body.now) t }
-    ensures { is_lifetime_reading result ≡ lifetime_in body.now t }
-{
-    match t {
-        Times::Never => LifetimeReading::Is(Lifetime::Unasked),
-        Times::More(_) => LifetimeReading::Ill,
-        Times::One(at) => {
-            let start = at.start;
-            let end = at.end;
-            let reading = timeout::read(&body[start..end]);
-            match reading {
-                Timeout::Lifetime(s) => LifetimeReading::Is(Lifetime::Asked(s)),
-                Timeout::Ill => LifetimeReading::Ill,
-            }
-        }
+    Part {
+        start: at + part.start,
+        end: at + part.end,
     }
 }
 
+// The key lifetime that a Timeout Interval asks for, where there is one.
+pub fn read_lifetime(body: &[u8], at: Option<Part>) -> Option<Option<Seconds>>
+    requires { ForSome at (Lies 0 (length body.now)) }
+    ensures { result ≡ lifetime_at body.now at }
+{
+    let Some(at) = at else {
+        return Some(None);
+    };
+    Some(Some(timeout::read(at.of(body))?))
+}
+
 // PASN Parameters, whose content begins with the extension ID. What they tell are parts of what follows it.
-pub fn parameters_at(body: &[u8], at: Part, side: Side) -> parameters::Reading
+pub fn parameters_at(body: &[u8], at: Part, side: Side) -> Option<Parameters>
     requires { Lies 1 (length body.now) at }
     ensures { result ≡ parameters_of side (content body.now (extended at)) }
 {
-    let start = at.start + 1;
-    let end = at.end;
-    parameters::read(&body[start..end], side)
+    let extended = Part {
+        start: at.start + 1,
+        end: at.end,
+    };
+    parameters::read(extended.of(body), side)
 }

@@ -1,53 +1,42 @@
-use mathlib.Core.Path.{sym, ap, ◌∙◌}
-use Rattle.frames.specs.ByElement.{is_lifetime_reading, is_offered}
-use Rattle.frames.specs.Contents.{is_walked, never, is_rsne, holds}
-use Rattle.frames.specs.First.{first_of}
-use Rattle.frames.proofs.Chain.{apart}
-use Rattle.frames.proofs.Otherwise.{not_none}
-use Rattle.frames.proofs.Steps.{walked_lies}
-use Rattle.frames.proofs.first.Laws.{first_made, first_ill, first_unwrapped}
+use Rattle.std.proofs.Common.{length, arith, sym, ap, ◌∙◌}
+use Rattle.elements.specs.Lies.{Lies}
+use Rattle.rsne.specs.Rsne.{rsne_of}
+use Rattle.frames.proofs.Inner.{rsne_lies, key_lies}
+use Rattle.frames.proofs.Steps.{walked_lies, once_lies, at_most_once_lies}
 use Rattle.frames.proofs.first.read.Goals as goal
+use Rattle.frames.proofs.first.read.Goals.{In_ok-at_rsne, In_ok-at_parameters}
 
-pub returns-in_default : goal.returns-in_default
-unfolding first_of
-returns-in_default c = rw (sym c.scan_body-scan.ensures ∙ c.in_default.is)
+rsne : (c : In_ok-at_rsne) → Lies 0 (length c.args.body.now) c.in_ok-at_rsne.at_rsne
+rsne c = once_lies _ (walked_lies c.args.body.now c.scan_body.ensures c.ok.ensures.value c.in_ok-places.was).rsne (sym c.once.ensures ∙ c.in_ok-at_rsne.was)
 
-pub returns-in_default-fragment : goal.returns-in_default-fragment
-returns-in_default-fragment c =
-    first_ill _ (ap is_walked (sym c.scan_body-scan.ensures ∙ c.in-Walked.is)) λ facts s. apart (not_none c.in-Walked.p.fragment c.in_default-fragment.not-Never) s.fragment
+parameters : (c : In_ok-at_parameters) → Lies 1 (length c.args.body.now) c.in_ok-at_parameters.at_parameters
+parameters c =
+    once_lies _ (walked_lies c.args.body.now c.scan_body.ensures c.ok.ensures.value c.in_ok-places.was).parameters (sym c.once-2.ensures ∙ c.in_ok-at_parameters.was)
 
-pub read_rsne-reading-requires : goal.read_rsne-reading-requires
-read_rsne-reading-requires c = (walked_lies _ (ap is_walked (sym c.scan_body-scan.ensures ∙ c.in-Walked.is))).rsne
+pub of-requires : goal.of-requires
+of-requires c = rsne (goal.at.of-requires c).In_ok-at_rsne
 
-pub returns-in_default-reading : goal.returns-in_default-reading
-returns-in_default-reading c =
-    first_ill _ (ap is_walked (sym c.scan_body-scan.ensures ∙ c.in-Walked.is)) λ facts s. apart (ap is_rsne (sym c.in_default-reading.is) ∙ c.read_rsne-reading.ensures) s.rsne
+pub read_lifetime-requires : goal.read_lifetime-requires
+read_lifetime-requires c =
+    at_most_once_lies _ (walked_lies c.args.body.now c.scan_body.ensures c.ok.ensures.value c.in_ok-places.was).timeout
+    (sym c.at_most_once.ensures ∙ c.in_ok-at_timeout.was)
 
-pub read_lifetime-reading-requires : goal.read_lifetime-reading-requires
-read_lifetime-reading-requires c = (walked_lies _ (ap is_walked (sym c.scan_body-scan.ensures ∙ c.in-Walked.is))).timeout
+pub parameters_at-requires : goal.parameters_at-requires
+parameters_at-requires c = parameters (goal.at.parameters_at-requires c).In_ok-at_parameters
 
-pub returns-in_default-reading-2 : goal.returns-in_default-reading-2
-returns-in_default-reading-2 c =
-    first_ill _ (ap is_walked (sym c.scan_body-scan.ensures ∙ c.in-Walked.is)) λ facts s. apart (ap is_lifetime_reading (sym c.in_default-reading-2.is) ∙ c.read_lifetime-reading.ensures) s.lifetime
+pub shifted-requires : goal.shifted-requires
+shifted-requires c =
+    let at = rsne (goal.at.shifted-requires c).In_ok-at_rsne in
+    let pmkids = rsne_lies c.args.body.now at (sym (c.read.ensures ∙ ap rsne_of c.of.ensures) ∙ c.in_ok-rsne.was) in
+    (omega arith, omega arith)
 
-pub read_offered-offered-requires : goal.read_offered-offered-requires
-read_offered-offered-requires c = (walked_lies _ (ap is_walked (sym c.scan_body-scan.ensures ∙ c.in-Walked.is))).parameters
+pub overflow_add-at_parameters : goal.overflow_add-at_parameters
+overflow_add-at_parameters c =
+    let at = parameters (goal.at.overflow_add-at_parameters c).In_ok-at_parameters in
+    omega arith
 
-pub returns-in_default-offered : goal.returns-in_default-offered
-returns-in_default-offered c =
-    first_ill _ (ap is_walked (sym c.scan_body-scan.ensures ∙ c.in-Walked.is)) λ facts s. apart (ap is_offered (sym c.in_default-offered.is) ∙ c.read_offered-offered.ensures) s.offered
-
-pub returns-then-wrapped_fits : goal.returns-then-wrapped_fits
-returns-then-wrapped_fits c =
-    sym (first_made _ (ap is_walked (sym c.scan_body-scan.ensures ∙ c.in-Walked.is)) (record {
-      fragment = ap never c.in-Never.is;
-      rsne = sym c.read_rsne-reading.ensures ∙ ap is_rsne c.in-Is.is;
-      lifetime = sym c.read_lifetime-reading.ensures ∙ ap is_lifetime_reading c.in-Is-reading.is;
-      offered = sym c.read_offered-offered.ensures ∙ ap is_offered c.in-Key.is;
-      wrapped = sym c.wrapped_fits.ensures ∙ ap holds c.if-wrapped_fits.true;
-    }))
-
-pub returns : goal.returns
-returns c =
-    first_unwrapped _ (ap is_walked (sym c.scan_body-scan.ensures ∙ c.in-Walked.is)) (sym c.read_offered-offered.ensures ∙ ap is_offered c.in-Key.is)
-    (ap holds (sym c.if-wrapped_fits.false) ∙ c.wrapped_fits.ensures)
+pub shifted-requires-2 : goal.shifted-requires-2
+shifted-requires-2 c =
+    let at = parameters (goal.at.shifted-requires-2 c).In_ok-at_parameters in
+    let key = key_lies c.args.body.now at (sym c.parameters_at.ensures ∙ c.in_ok-parameters.was) c.in_ok-group.was in
+    (omega arith, omega arith)

@@ -1,88 +1,73 @@
 -- Where the key and the MIC of a body lie, and what writing the MIC leaves.
-use mathlib.Core.Path.{◌≡◌, refl, sym, ap, ◌∙◌}
-use mathlib.Core.Bool.{Bool, true, false, ◌&&◌, ◌||◌}
+use mathlib.Core.Path.{◌≡◌, refl, sym, ap, ◌∙◌, subst}
+use mathlib.Core.Bool.{◌&&◌, ◌||◌}
 use mathlib.Core.List.{List, ◌++◌, append_assoc}
-use Rattle.std.specs.Prelude.{Option, None, Some}
+use Rattle.std.specs.Prelude.{Option, None, Some, Ok, unwrap_or}
+use Rattle.std.specs.Result.{result_ok}
+use Rattle.octets.proofs.Options.{some-injective}
 use Prim.Native.Nat.{ℕ, ◌-◌, ◌≤◌}
 use native.Mathlib.Omega.{arith}
 use lib.Dec.{eqb}
 use lib.ListN.{length, take, drop, replicate, length-append, length-replicate}
 use lib.Seq.{length-take-le, take-append-le, drop-append-le}
 use borrow.Rule.Slice.PartMut.{put_mid}
-use Rattle.std.specs.Prelude.{if◌then◌else◌}
 use Rattle.octets.specs.Wrote.{Wrote}
 use Rattle.octets.proofs.Parts.{wrote_front, wrote_more}
-use Rattle.elements.specs.declared.Opened.{Opened}
 use Rattle.elements.specs.declared.Part.{Part}
-use Rattle.scan.specs.declared.Scan.{Scan}
-use Rattle.scan.specs.declared.Times.{Times}
-use Rattle.scan.specs.declared.Times.TheVariants.{Never, One, More}
 use Rattle.elements.specs.Body.{body_of}
+use Rattle.elements.specs.Lies.{Lies, content}
+use Rattle.scan.specs.declared.Places.{Places}
+use Rattle.scan.specs.declared.Times.TheVariants.{One}
 use Rattle.scan.specs.Scan.{scan_of}
-use Rattle.elements.specs.Lies.{Lies}
+use Rattle.scan.specs.Times.{once}
 use Rattle.scan.specs.Within.{LiesIf}
 use Rattle.scan.proofs.Scanning.{within}
-use Rattle.suites.specs.declared.GroupEntry.{GroupEntry}
 use Rattle.suites.specs.Tables.{is_mic_length, group_of, is_key_of}
-use Rattle.frames.specs.declared.first.Facts.{Facts}
-use Rattle.frames.specs.Contents.{content}
+use Rattle.frames.specs.Contents.{holds}
 use Rattle.frames.specs.First.{first_of}
+use Rattle.frames.proofs.Chain.{found}
+use Rattle.frames.proofs.Steps.{walked_to, once_at}
 use Rattle.frames.proofs.first.Laws.{first_lies}
-use Rattle.chip.specs.declared.MicPlace.{MicPlace}
-use Rattle.chip.specs.declared.MicPlace.TheVariants.{At, Nowhere}
-use Rattle.chip.specs.Chip.{nowhere, key_with, key_by, key_in, key_part, mic_at, mic_scanned, mic_opened, mic_in, with_mic}
+use Rattle.chip.specs.Chip.{nowhere, key_in, key_part, mic_in, with_mic}
 
-nowhere_lies : (n : ℕ) → Lies 0 n nowhere
-nowhere_lies n = record { long = omega arith; within = omega arith }
+key_in_lies : (body : List ℕ) {p : Part} → key_in body ≡ Some p → Lies 0 (length body) p
+unfolding key_in
+key_in_lies body e =
+    found (body_of body) e λ header opens e.
+    found (holds (eqb header.algorithm 7 && eqb header.transaction 1)) e λ u first e.
+    found (first_of body) e λ facts reads e.
+    found (group_of facts.group) e λ group in_table e.
+    found (holds (is_key_of group (content body facts.key))) e λ v fits e.
+    subst (Lies 0 (length body)) (some-injective _ _ e) (first_lies body reads).key
 
 pub key_part_lies : (body : List ℕ) → Lies 0 (length body) (key_part body)
 unfolding key_part
-key_part_lies body = opened (body_of body)
+key_part_lies body = go (key_in body) refl
   where
-    chosen : (b : Bool) (p : Part) → Lies 0 (length body) p → Lies 0 (length body) (if b then p else nowhere)
-    chosen true p l = l
-    chosen false p l = nowhere_lies (length body)
+    go : (o : Option Part) → key_in body ≡ o → Lies 0 (length body) (unwrap_or o nowhere)
+    go (Some p) e = key_in_lies body e
+    go None e = record { long = omega arith; within = omega arith }
 
-    grouped : (g : GroupEntry) (p : Part) → Lies 0 (length body) p → Lies 0 (length body) (key_with body p g)
-    grouped (GroupEntry.In g) p l = chosen (is_key_of g (content body p)) p l
-    grouped GroupEntry.NotInTable p l = nowhere_lies (length body)
+-- a MIC's place is that of the one MIC of a body that walks to its end
+pub record Found (body : List ℕ) (p : Part) : Type 0 where
+  pub places : Places
+  pub walked : scan_of body ≡ Ok places
+  pub one : places.mic ≡ One p
 
-    read : (f : Option Facts) → first_of body ≡ f → Lies 0 (length body) (key_by body f)
-    read (Some facts) e = grouped (group_of facts.group) facts.key (first_lies body e).key
-    read None e = nowhere_lies (length body)
-
-    opened : (o : Opened) → Lies 0 (length body) (key_in body o)
-    opened (Opened.Body h) = chosen (eqb h.algorithm 7 && eqb h.transaction 1) (key_by body (first_of body)) (read (first_of body) refl)
-    opened Opened.NoBody = nowhere_lies (length body)
-
-abbrev MicLies : ℕ → MicPlace → Type 0
-MicLies n (At p) = Lies 0 n p
-MicLies n Nowhere = Unit {0}
-
-mic_in_lies : (body : List ℕ) → MicLies (length body) (mic_in body)
+pub mic_found : (body : List ℕ) {p : Part} → mic_in body ≡ Some p → Found body p
 unfolding mic_in
-mic_in_lies body = opened (body_of body)
-  where
-    chosen : (b : Bool) (m : MicPlace) → MicLies (length body) m → MicLies (length body) (if b then m else Nowhere)
-    chosen true m l = l
-    chosen false m l = tt
+mic_found body {p} e =
+    found (body_of body) e λ header opens e.
+    found (holds (eqb header.algorithm 7 && (eqb header.transaction 2 || eqb header.transaction 3))) e λ u kind e.
+    found (result_ok (scan_of body)) e λ places walked e.
+    found (once places.mic) e λ mic one e.
+    found (holds (is_mic_length (mic.end - mic.start))) e λ v long e.
+    record { places = places; walked = walked_to (scan_of body) walked; one = once_at places.mic one ∙ ap One (some-injective _ _ e) }
 
-    times : (t : Times) → LiesIf 0 (length body) t → MicLies (length body) (mic_at t)
-    times Never l = tt
-    times (One p) l = chosen (is_mic_length (p.end - p.start)) (At p) l
-    times (More p) l = tt
-
-    scanned : (s : Scan) → scan_of body ≡ s → MicLies (length body) (mic_scanned s)
-    scanned (Scan.Failed place) e = tt
-    scanned (Scan.Walked p) e = times p.mic (within body p e).mic
-
-    opened : (o : Opened) → MicLies (length body) (mic_opened body o)
-    opened (Opened.Body h) =
-        chosen (eqb h.algorithm 7 && (eqb h.transaction 2 || eqb h.transaction 3)) (mic_scanned (scan_of body)) (scanned (scan_of body) refl)
-    opened Opened.NoBody = tt
-
-pub mic_lies : (body : List ℕ) (p : Part) → mic_in body ≡ At p → Lies 0 (length body) p
-mic_lies body p e = rw e at (mic_in_lies body)
+pub mic_lies : (body : List ℕ) (p : Part) → mic_in body ≡ Some p → Lies 0 (length body) p
+mic_lies body p e =
+    let f = mic_found body e in
+    subst (LiesIf 0 (length body)) f.one (within body f.places f.walked).mic
 
 -- Writing n octets into the part of a body that begins at its MIC sets the MIC.
 pub mic_set : (body mic ys : List ℕ) (p : Part) {n : ℕ} → Lies 0 (length body) p → p.end - p.start ≡ length mic

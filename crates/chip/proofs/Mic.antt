@@ -1,6 +1,6 @@
 -- Setting and zeroing the MIC: the body is walked as before, and nothing is left of the MIC that stood there.
-use mathlib.Core.Path.{◌≡◌, refl, sym, ap, ap₂, ◌∙◌}
-use mathlib.Core.Bool.{Bool, true, false, ◌&&◌, ◌||◌}
+use mathlib.Core.Path.{◌≡◌, refl, sym, ap, ap₂, ◌∙◌, subst}
+use mathlib.Core.Bool.{Bool, true, false}
 use mathlib.Core.List.{List, ◌++◌, append_assoc, append-nil}
 use Prim.Native.Nat.{ℕ, ◌+◌, ◌-◌, ◌<◌, ◌≤◌}
 use native.Mathlib.Omega.{arith}
@@ -8,59 +8,26 @@ use borrow.Author.Tests.{eqb-true, eq-eqb, le-ltb}
 use lib.Dec.{eqb, ltb}
 use lib.ListN.{length, take, drop, get_or, replicate, length-append, length-drop, length-replicate, get_or-append}
 use lib.Seq.{length-take-le, take_at, drop_at, drop-length, get_or-take, get_or-drop, get_or-append-add}
-use Rattle.std.specs.Prelude.{if◌then◌else◌}
+use Rattle.std.specs.Prelude.{Option, None, Some, if◌then◌else◌}
 use Rattle.octets.proofs.Choice.{either_way}
-use Rattle.elements.specs.declared.Opened.{Opened}
 use Rattle.elements.specs.declared.Part.{Part}
-use Rattle.scan.specs.declared.Scan.{Scan}
-use Rattle.scan.specs.declared.Times.{Times}
-use Rattle.scan.specs.declared.Times.TheVariants.{Never, One, More}
-use Rattle.elements.specs.Body.{body_of}
-use Rattle.scan.specs.Scan.{scan_of}
 use Rattle.elements.specs.Walk.{walk_body}
 use Rattle.elements.specs.Lies.{Lies}
 use Rattle.scan.proofs.Unread.{SameBut, Inside, SomeOf, InsideIf, SameRead, same_read, mic_inside}
-use Rattle.suites.specs.Tables.{is_mic_length}
-use Rattle.chip.specs.declared.MicPlace.{MicPlace}
-use Rattle.chip.specs.declared.MicPlace.TheVariants.{At, Nowhere}
-use Rattle.chip.specs.Chip.{mic_at, mic_scanned, mic_opened, mic_in, with_mic, zero_number_at, zero_number, zeroed_at, zeroed, set_at, set_octets}
-use Rattle.chip.proofs.Laws.{mic_lies}
+use Rattle.chip.specs.Chip.{mic_in, with_mic, zero_number_at, zero_number, zeroed_at, zeroed, set_at, set_octets}
+use Rattle.chip.proofs.Laws.{mic_found, mic_lies}
 
-abbrev MicInside : List ℕ → MicPlace → Type 0
-MicInside body (At p) = SomeOf (Inside p) (walk_body body)
-MicInside body Nowhere = Unit {0}
-
-mic_in_inside : (body : List ℕ) → MicInside body (mic_in body)
-unfolding mic_in
-mic_in_inside body = opened (body_of body)
-  where
-    chosen : (b : Bool) (m : MicPlace) → MicInside body m → MicInside body (if b then m else Nowhere)
-    chosen b m i = either_way (MicInside body) b (λ e. i) (λ e. tt)
-
-    times : (t : Times) → InsideIf (walk_body body) t → MicInside body (mic_at t)
-    times Never i = tt
-    times (One p) i = chosen (is_mic_length (p.end - p.start)) (At p) i
-    times (More p) i = tt
-
-    scanned : (s : Scan) → scan_of body ≡ s → MicInside body (mic_scanned s)
-    scanned (Scan.Failed place) e = tt
-    scanned (Scan.Walked p) e = times p.mic (mic_inside body p e)
-
-    opened : (o : Opened) → MicInside body (mic_opened body o)
-    opened (Opened.Body h) =
-        chosen (eqb h.algorithm 7 && (eqb h.transaction 2 || eqb h.transaction 3)) (mic_scanned (scan_of body)) (scanned (scan_of body) refl)
-    opened Opened.NoBody = tt
+mic_in_inside : (body : List ℕ) {p : Part} → mic_in body ≡ Some p → SomeOf (Inside p) (walk_body body)
+mic_in_inside body e =
+    let f = mic_found body e in
+    subst (InsideIf (walk_body body)) f.one (mic_inside body f.places f.walked)
 
 same_mic : {s t : List ℕ} → SameRead s t → mic_in t ≡ mic_in s
 unfolding mic_in
-same_mic {s} {t} r = ap (mic_opened t) (sym r.opens) ∙ opened (body_of s)
-  where
-    opened : (o : Opened) → mic_opened t o ≡ mic_opened s o
-    opened (Opened.Body h) = rw r.scans
-    opened Opened.NoBody = refl
+same_mic r = rw (r.opens, r.scans)
 
 -- A MIC of the length of the one that stands is written over it.
-module _ (body m : List ℕ) (p : Part) (found : mic_in body ≡ At p) (long : p.end - p.start ≡ length m) where
+module _ (body m : List ℕ) (p : Part) (found : mic_in body ≡ Some p) (long : p.end - p.start ≡ length m) where
   lies : Lies 0 (length body) p
   lies = mic_lies body p found
 
@@ -100,21 +67,21 @@ module _ (body m : List ℕ) (p : Part) (found : mic_in body ≡ At p) (long : p
   same_but = record { long = sym same_length; before = λ i h. sym (same_before i h); after = λ i h. sym (same_after i h) }
 
   pub same_body : SameRead body (with_mic body p m)
-  same_body = same_read p body (with_mic body p m) same_but (rw found at (mic_in_inside body))
+  same_body = same_read p body (with_mic body p m) same_but (mic_in_inside body found)
 
-  pub same_place : mic_in (with_mic body p m) ≡ At p
+  pub same_place : mic_in (with_mic body p m) ≡ Some p
   same_place = same_mic same_body ∙ found
 
 -- What holds of the body, and of it with the MIC written, holds after setting.
 module _ (body m : List ℕ) (P : List ℕ → Type 0) (kept : P body)
-    (written : (p : Part) → mic_in body ≡ At p → p.end - p.start ≡ length m → P (with_mic body p m)) where
+    (written : (p : Part) → mic_in body ≡ Some p → p.end - p.start ≡ length m → P (with_mic body p m)) where
   after_set : P (set_octets body m)
   unfolding set_octets
   after_set = go (mic_in body) refl
     where
-      go : (x : MicPlace) → mic_in body ≡ x → P (set_at body m x)
-      go (At p) at = either_way P (eqb (p.end - p.start) (length m)) (λ e. written p at (eqb-true (p.end - p.start) (length m) e)) (λ e. kept)
-      go Nowhere at = kept
+      go : (x : Option Part) → mic_in body ≡ x → P (set_at body m x)
+      go (Some p) at = either_way P (eqb (p.end - p.start) (length m)) (λ e. written p at (eqb-true (p.end - p.start) (length m) e)) (λ e. kept)
+      go None at = kept
 
 module _ (body m : List ℕ) where
   pub set_keeps_length : length (set_octets body m) ≡ length body
@@ -131,13 +98,13 @@ module _ (body m : List ℕ) where
 
   pub zero_number_after_set : (k : ℕ) → zero_number (set_octets body m) k ≡ zero_number body k
   unfolding zero_number
-  zero_number_after_set k = ap₂ (λ (n : ℕ) (x : MicPlace). zero_number_at n k x) set_keeps_length set_keeps_place
+  zero_number_after_set k = ap₂ (λ (n : ℕ) (x : Option Part). zero_number_at n k x) set_keeps_length set_keeps_place
 
   pub zero_after_set : (out : List ℕ) → zeroed (set_octets body m) out ≡ zeroed body out
   unfolding zeroed
   zero_after_set out = after_set body m (λ s. zeroed s out ≡ zeroed body out) refl written
     where
-      written : (p : Part) → mic_in body ≡ At p → p.end - p.start ≡ length m → zeroed (with_mic body p m) out ≡ zeroed body out
+      written : (p : Part) → mic_in body ≡ Some p → p.end - p.start ≡ length m → zeroed (with_mic body p m) out ≡ zeroed body out
       written p at e =
           ap (zeroed_at (with_mic body p m) out) (same_place body m p at e)
           ∙ ap₂ (λ (n : ℕ) (s : List ℕ). if ltb (length out) n then out else s ++ drop n out) (same_length body m p at e)
@@ -148,7 +115,7 @@ zeros_long : (p : Part) → p.end - p.start ≡ length (replicate {A = ℕ} (p.e
 zeros_long p = sym (length-replicate (p.end - p.start) 0)
 
 -- Setting the zeros is zeroing in place.
-pub set_zeros : (body : List ℕ) (p : Part) → mic_in body ≡ At p → set_octets body (replicate (p.end - p.start) 0) ≡ zeroed body body
+pub set_zeros : (body : List ℕ) (p : Part) → mic_in body ≡ Some p → set_octets body (replicate (p.end - p.start) 0) ≡ zeroed body body
 unfolding set_octets zeroed
 set_zeros body p at =
     rw (
@@ -163,7 +130,7 @@ pub zero_keeps_walk : (body out : List ℕ) → zero_number body (length out) �
 unfolding zero_number zeroed
 zero_keeps_walk body out = go (mic_in body) refl
   where
-    fits : (p : Part) → mic_in body ≡ At p → (b : Bool) → ◌≡◌ {A = ℕ} (if b then 2 else 19) 19
+    fits : (p : Part) → mic_in body ≡ Some p → (b : Bool) → ◌≡◌ {A = ℕ} (if b then 2 else 19) 19
         → walk_body (take (length body) (if b then out else with_mic body p (replicate (p.end - p.start) 0) ++ drop (length body) out)) ≡ walk_body body
     fits p at true q = absurd (omega (arith, q))
     fits p at false q =
@@ -171,7 +138,7 @@ zero_keeps_walk body out = go (mic_in body) refl
         let e = zeros_long p in
         ap walk_body (take_at (with_mic body p zeros) (drop (length body) out) (length body) (same_length body zeros p at e)) ∙ sym (same_body body zeros p at e).walks
 
-    go : (x : MicPlace) → mic_in body ≡ x → zero_number_at (length body) (length out) x ≡ 19
+    go : (x : Option Part) → mic_in body ≡ x → zero_number_at (length body) (length out) x ≡ 19
         → walk_body (take (length body) (zeroed_at body out x)) ≡ walk_body body
-    go (At p) at q = fits p at (ltb (length out) (length body)) q
-    go Nowhere at q = absurd (omega (arith, q))
+    go (Some p) at q = fits p at (ltb (length out) (length body)) q
+    go None at q = absurd (omega (arith, q))

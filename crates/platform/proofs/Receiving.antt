@@ -1,58 +1,26 @@
--- A receive, by its checks, by what the search saw of its peer, and by what its body gets.
-use mathlib.Core.Path.{◌≡◌, refl, sym, ap, subst, ◌∙◌}
-use mathlib.Core.Bool.{Bool, false}
-use mathlib.Core.List.{List}
+-- A receive, by its checks, by what the search found of its peer, and by what its body gets.
+use Rattle.std.proofs.Common.{◌≡◌, Bool, false, List, ℕ, length, refl, sym, ap, subst, ◌∙◌}
 use Rattle.std.specs.Prelude.{Option, None, Some}
-use Prim.Native.Nat.{ℕ}
-use native.Mathlib.Omega.{arith}
-use lib.ListN.{length}
 use Rattle.octets.proofs.Parts.{wrote_none}
 use Rattle.units.specs.declared.Tu.{Tu}
 use Rattle.elements.specs.Body.{body_of}
-use Rattle.peers.specs.declared.Agreed.{Agreed}
 use Rattle.peers.specs.declared.Found.{Found}
-use Rattle.peers.specs.declared.Found.TheVariants.{At, Free, Full}
 use Rattle.peers.specs.declared.Peer.{Peer}
-use Rattle.peers.specs.declared.Phase.{Phase}
 use Rattle.peers.specs.declared.Table.{Table}
-use Rattle.peers.specs.Promises.{Puts, Drops}
-use Rattle.peers.specs.View.{dated}
-use Rattle.peers.proofs.Laws.{shown_is}
+use Rattle.peers.specs.Promises.{shown_at, is_full, Finds}
+use Rattle.peers.specs.View.{shows, full, dated}
+use Rattle.peers.proofs.Laws.{shown_is, full_shown}
 use Rattle.rules.specs.declared.Answer.{Answer}
 use Rattle.rules.specs.declared.Leaves.{Leaves}
 use Rattle.rules.specs.declared.Verdict.{Verdict}
-use Rattle.rules.specs.OnePeer.{Call, answer_number, is_early, Left, same, gone, becomes, Outcome, unchanged, checks, on_body, receive_of}
-use Rattle.rules.specs.Told.{leaves_of, pmkid_of}
+use Rattle.rules.specs.OnePeer.{Call, answer_number, is_early, Outcome, unchanged, checks, on_body, receive_of}
+use Rattle.rules.specs.Told.{Gets}
 use Rattle.rules.proofs.Checks.{checks_early}
-use Rattle.calls.specs.Seen.{seen, is_full, BodyGets}
-use Rattle.platform.specs.Inside.{Seats}
-use Rattle.platform.specs.Promises.{Settles, Answers, ruled, Receives}
-use Rattle.platform.proofs.Settling.{dates_early, dates_late, settles_none, settles_same, settles_gone, settles_becomes}
-use Rattle.platform.proofs.Finding.{Sees}
-use Rattle.platform.proofs.Sound.{Placed, sound}
-
--- what a verdict leaves
-left_same : (l : Left) → Leaves.Same ≡ leaves_of l → l ≡ same
-left_same same e = refl
-left_same gone e = let z : ◌≡◌ {A = ℕ} 0 1 = cc in absurd (omega arith)
-left_same (becomes p) e = let z : ◌≡◌ {A = ℕ} 0 1 = cc in absurd (omega arith)
-
-left_gone : (l : Left) → Leaves.Gone ≡ leaves_of l → l ≡ gone
-left_gone same e = let z : ◌≡◌ {A = ℕ} 0 1 = cc in absurd (omega arith)
-left_gone gone e = refl
-left_gone (becomes p) e = let z : ◌≡◌ {A = ℕ} 0 1 = cc in absurd (omega arith)
-
-abbrev record_of : List ℕ → Agreed → List ℕ → Phase → Peer
-record_of address agreed pmkid phase = record { address = address; agreed = agreed; pmkid = pmkid; phase = phase }
-
-left_becomes : (l : Left) (address : List ℕ) (full : Bool) {agreed : Agreed} {phase : Phase} → Seats address full l → Leaves.Becomes agreed phase ≡ leaves_of l
-    → l ≡ becomes (record_of address agreed (pmkid_of l) phase)
-left_becomes same address full s e = let z : ◌≡◌ {A = ℕ} 0 1 = cc in absurd (omega arith)
-left_becomes gone address full s e = let z : ◌≡◌ {A = ℕ} 0 1 = cc in absurd (omega arith)
-left_becomes (becomes p) address full {agreed} {phase} s e =
-    let a : p.agreed ≡ agreed = cc in
-    let h : p.phase ≡ phase = cc in
-    rw (← s.0, ← a, ← h)
+use Rattle.calls.specs.Seen.{BodyGets}
+use Rattle.platform.specs.Inside.{Settled}
+use Rattle.platform.specs.Promises.{Answers, ruled, Receives}
+use Rattle.platform.proofs.Settling.{dates_early, dates_late, settles_none, settles_left, settled_latest}
+use Rattle.platform.proofs.Sound.{Placed, Sound, sound}
 
 module _ (t : Table) (call : Call) where
   abbrev reading : Tu
@@ -60,6 +28,9 @@ module _ (t : Table) (call : Call) where
 
   abbrev address : List ℕ
   address = call.brought.address
+
+  abbrev own : Option Peer
+  own = shows t reading address
 
   abbrev checked : Option Answer
   checked = checks t.latest call.brought call.cache (length call.buffer)
@@ -79,52 +50,38 @@ module _ (t : Table) (call : Call) where
       })
 
   -- all checks pass
-  module _ (passed : checked ≡ None) (found : Found) {peer : Peer} (w : Sees t address reading found peer) {after : List ℕ} {v : Verdict}
-      (g : BodyGets call found peer after v) where
+  module _ (passed : checked ≡ None) where
     abbrev outcome : Outcome
-    outcome = on_body call (body_of call.body) (is_full found) (seen found peer)
+    outcome = on_body call (body_of call.body) (full t reading address) own
 
     body_rules : ruled t call ≡ outcome
     unfolding receive_of
-    body_rules = rw (passed, w.shown, w.filled)
+    body_rules = rw passed
 
-    placed : Placed call (is_full found) (seen found peer)
-    placed = go found w
-      where
-        go : (f : Found) → Sees t address reading f peer → Placed call (is_full f) (seen f peer)
-        go (At i) w = ((shown_is t reading address w.shown).address, refl)
-        go Free w = tt
-        go Full w = tt
+    placed : (o : Option Peer) → own ≡ o → Placed call (full t reading address) o
+    placed None e = tt
+    placed (Some p) e = ((shown_is t reading address e).address, full_shown t reading address e)
 
-    seats : Seats address (is_full found) outcome.leaves
-    seats = (sound call (is_full found) (seen found peer) (body_of call.body)).seats placed
+    by_rules : Sound call (full t reading address) own outcome
+    by_rules = sound call (full t reading address) own (body_of call.body)
 
-    pub late : is_early (answer_number v.answer) ≡ false
-    late = ap (λ (a : Answer). is_early (answer_number a)) g.answer ∙ (sound call (is_full found) (seen found peer) (body_of call.body)).late
+    -- the body got what the rules say of the receive that was checked, by what the search found
+    module _ {found : Found} (f : Finds t address reading found) {that : Call} (same : that ≡ call) {room : Bool} (r : room ≡ is_full found)
+        {peer : Option Peer} (p : peer ≡ shown_at t found) {after : List ℕ} {v : Verdict} (body : BodyGets that room peer after v) where
+      gets : Gets outcome call.buffer after v
+      gets = rw (f.shown ∙ sym p, f.filled ∙ sym r) (subst (λ (k : Call). BodyGets k room peer after v) same body)
 
-    received : {l : Left} {r : Table} → outcome.leaves ≡ l → r.latest ≡ reading → Settles t address reading l r
-        → Receives t call after (record { table = r; answer = v.answer; length = v.length })
-    received {l} {r} e d s =
-        subst (λ (o : Outcome). Answers t call o after (record { table = r; answer = v.answer; length = v.length })) (sym body_rules)
-        (record {
-          number = ap answer_number g.answer;
-          answer = g.answer;
-          reply = g.wrote;
-          dates = dates_late t (sound call (is_full found) (seen found peer) (body_of call.body)).late d;
-          settles = subst (λ (l : Left). Settles t address reading l r) (sym e) s;
-        })
+      pub late : is_early (answer_number v.answer) ≡ false
+      late = ap (λ (a : Answer). is_early (answer_number a)) gets.answer ∙ by_rules.late
 
-    pub received_same : v.leaves ≡ Leaves.Same → Receives t call after (record { table = dated t reading; answer = v.answer; length = v.length })
-    received_same e = received (left_same outcome.leaves (sym e ∙ g.leaves)) refl (settles_same t address reading)
-
-    pub received_gone : {r : Table} → v.leaves ≡ Leaves.Gone → Drops (dated t reading) address r
-        → Receives t call after (record { table = r; answer = v.answer; length = v.length })
-    received_gone e d = received (left_gone outcome.leaves (sym e ∙ g.leaves)) d.latest (settles_gone t address reading d)
-
-    pub received_becomes : {agreed : Agreed} {phase : Phase} {r : Table} → v.leaves ≡ Leaves.Becomes agreed phase
-        → Puts (dated t reading) (record_of address agreed v.pmkid phase) r → Receives t call after (record { table = r; answer = v.answer; length = v.length })
-    received_becomes {agreed} {phase} e u =
-        let l = left_becomes outcome.leaves address (is_full found) seats (sym e ∙ g.leaves)
-        ∙ ap (λ (pmkid : List ℕ). becomes (record_of address agreed pmkid phase)) (sym g.pmkid) in
-        let s = subst (Seats address (is_full found)) l seats in
-        received l u.latest (settles_becomes t address reading (record_of address agreed v.pmkid phase) refl (w.filled ∙ s.1) u)
+      pub received : {r : Table} → Settled v.leaves address (dated t reading) r → Receives t call after (record { table = r; answer = v.answer; length = v.length })
+      received {r} s =
+          subst (λ (o : Outcome). Answers t call o after (record { table = r; answer = v.answer; length = v.length })) (sym body_rules)
+          (record {
+            number = ap answer_number gets.answer;
+            answer = gets.answer;
+            reply = gets.wrote;
+            dates = dates_late t by_rules.late (settled_latest (dated t reading) address r v.leaves s);
+            settles = settles_left t address reading outcome.leaves (by_rules.seats (placed own refl))
+                (subst (λ (leaves : Leaves). Settled leaves address (dated t reading) r) gets.leaves s);
+          })

@@ -1,16 +1,16 @@
 -- What is shown once a verdict is settled.
-use mathlib.Core.Path.{◌≡◌, refl, sym, ap, subst, ◌∙◌}
-use mathlib.Core.Bool.{Bool, true, false, true≢false}
-use mathlib.Core.List.{List, ◌∷◌}
-use Prim.Native.Nat.{ℕ, ◌+◌}
-use Rattle.std.specs.Prelude.{if◌then◌else◌}
+use Rattle.std.proofs.Common.{ℕ, ◌+◌, ◌≡◌, Bool, true, false, List, ◌∷◌, if◌then◌else◌, refl, sym, ap, subst, ◌∙◌}
+use mathlib.Core.Bool.{true≢false}
 use Rattle.octets.specs.Equality.{same_octets}
 use Rattle.units.specs.declared.Tu.{Tu}
 use Rattle.peers.specs.declared.Peer.{Peer}
 use Rattle.peers.specs.declared.Table.{Table}
 use Rattle.peers.specs.Promises.{while_live, Puts, Drops}
 use Rattle.peers.specs.View.{other, shows, others, full, dated}
+use Rattle.rules.specs.declared.Leaves.{Leaves}
 use Rattle.rules.specs.OnePeer.{Left, same, gone, becomes, is_early}
+use Rattle.rules.specs.Told.{leaves_of}
+use Rattle.platform.specs.Inside.{Seats, Settled}
 use Rattle.platform.specs.Promises.{Settles, Dates}
 
 either : {A : Type 0} (b : Bool) (x : A) → x ≡ (if b then x else x)
@@ -46,6 +46,13 @@ module _ (t : Table) (a : List ℕ) (n : Tu) where
         counted = λ m h these. u.counted g m h these ∙ ap (λ (l : List ℕ). others t m (l ∷ these) + (if other m these p then 1 else 0)) e;
       }
 
-  -- the same, by what the verdict says
-  pub settles_by : {r : Table} {l l' : Left} → Settles t a n l r → l ≡ l' → Settles t a n l' r
-  settles_by {r} s e = subst (λ (l : Left). Settles t a n l r) e s
+  -- what the rules leave, once it is so
+  pub settles_left : {r : Table} (l : Left) → Seats a (full t n a) l → Settled (leaves_of l) a (dated t n) r → Settles t a n l r
+  settles_left same s e = rw e settles_same
+  settles_left gone s d = settles_gone d
+  settles_left (becomes p) s u = settles_becomes p s.0 s.1 u
+
+pub settled_latest : (t : Table) (a : List ℕ) (r : Table) (leaves : Leaves) → Settled leaves a t r → r.latest ≡ t.latest
+settled_latest t a r Leaves.Same e = ap (λ (u : Table). u.latest) e
+settled_latest t a r Leaves.Gone d = d.latest
+settled_latest t a r (Leaves.Becomes p) u = u.latest

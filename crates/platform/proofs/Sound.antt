@@ -1,20 +1,21 @@
 -- A body's outcome is none of the answers 1 to 5. A record that it makes is of this address and has a place, if the one that there was did.
 use mathlib.Core.Path.{◌≡◌, refl}
 use mathlib.Core.Bool.{Bool, true, false, not}
-use Rattle.std.specs.Prelude.{Option, None, Some}
+use Rattle.std.specs.Prelude.{Option, None, Some, Ok, Err}
 use Prim.Native.Nat.{ℕ}
 use lib.Dec.{eqb}
 use Rattle.std.specs.Prelude.{if◌then◌else◌}
 use Rattle.octets.specs.Equality.{same_octets}
 use Rattle.octets.proofs.Choice.{either_way}
-use Rattle.elements.specs.declared.Opened.{Opened}
+use Rattle.elements.specs.declared.Header.{Header}
 use Rattle.elements.specs.declared.Part.{Part}
-use Rattle.suites.specs.declared.AkmEntry.{AkmEntry}
+use Rattle.suites.specs.declared.Akm.{Akm}
 use Rattle.suites.specs.Tables.{akm_of, is_key_of}
-use Rattle.frames.specs.Contents.{content}
+use Rattle.elements.specs.Lies.{content}
 use Rattle.frames.specs.Third.{third_of}
 use Rattle.peers.specs.declared.Peer.{Peer}
-use Rattle.rules.specs.OnePeer.{Call, answer_number, is_early, same, becomes, Outcome, gone_if, terms_of, is_waiting, is_installed, waits, Step, refuse, pass, Passed, steps, first_outcome, first_frame, third_mic, third_akm, third_frame, on_body}
+use Rattle.rules.specs.declared.Passed.{Passed}
+use Rattle.rules.specs.OnePeer.{Call, answer_number, is_early, same, becomes, Outcome, gone_if, terms_of, is_waiting, is_installed, waits, Step, steps, first_outcome, first_frame, third_mic, third_akm, third_frame, on_body}
 use Rattle.rules.proofs.Inversion.{passes}
 use Rattle.platform.specs.Inside.{Seats}
 
@@ -39,8 +40,8 @@ module _ (call : Call) (full : Bool) where
   module _ (own : Option Peer) where
     first_sound : (algorithm : ℕ) (s : Step Passed) → steps call.brought call.cache call.body full ≡ s
         → Sound own (first_outcome call.brought call.key algorithm (waits own) s)
-    first_sound algorithm (refuse why) e = record { seats = λ placed. refused (terms_of why).spares (waits own); late = refl }
-    first_sound algorithm (pass passed) e =
+    first_sound algorithm (Err why) e = record { seats = λ placed. refused (terms_of why).spares (waits own); late = refl }
+    first_sound algorithm (Ok passed) e =
         either_way (Sound own) (is_key_of passed.group call.key)
         (λ _. record { seats = λ placed. (refl, (passes call.brought call.cache call.body full e).room); late = refl })
         (λ _. record { seats = λ placed. tt; late = refl })
@@ -56,9 +57,9 @@ module _ (call : Call) (full : Bool) where
         either_way (Sound (Some p)) (same_octets (content call.body part) call.mic) (λ _. record { seats = λ placed. placed; late = refl }) (λ _. record { seats = λ placed. tt; late = refl })
     by_mic None = record { seats = λ placed. tt; late = refl }
 
-    by_akm : (entry : AkmEntry) → Sound (Some p) (third_akm call.brought.reading call.mic call.body p entry)
-    by_akm (AkmEntry.In akm) = by_mic (third_of call.body akm.mic)
-    by_akm AkmEntry.NotInTable = record { seats = λ placed. tt; late = refl }
+    by_akm : (entry : Option Akm) → Sound (Some p) (third_akm call.brought.reading call.mic call.body p entry)
+    by_akm (Some akm) = by_mic (third_of call.body akm.mic)
+    by_akm None = record { seats = λ placed. tt; late = refl }
 
   third : (status : ℕ) (own : Option Peer) → Sound own (third_frame call.brought.reading call.mic call.body status own)
   third status None = record { seats = λ placed. tt; late = refl }
@@ -67,9 +68,9 @@ module _ (call : Call) (full : Bool) where
       either_way (Sound (Some p)) (not (eqb status 0)) (λ _. record { seats = λ placed. tt; late = refl }) λ _.
       by_akm p (akm_of p.agreed.akm)
 
-  pub sound : (own : Option Peer) → (opened : Opened) → Sound own (on_body call opened full own)
-  sound own (Opened.Body header) =
+  pub sound : (own : Option Peer) → (opened : Option Header) → Sound own (on_body call opened full own)
+  sound own (Some header) =
       either_way (Sound own) (not (eqb header.algorithm 7)) (λ _. record { seats = λ placed. goes (waits own); late = refl }) λ _.
       either_way (Sound own) (eqb header.transaction 1) (λ _. first own header.algorithm) λ _.
       either_way (Sound own) (eqb header.transaction 3) (λ _. third header.status own) λ _. record { seats = λ placed. tt; late = refl }
-  sound own Opened.NoBody = record { seats = λ placed. tt; late = refl }
+  sound own None = record { seats = λ placed. tt; late = refl }

@@ -1,17 +1,25 @@
-// The platform unit: sixteen records, and the operations that a host calls. None of them has a `requires`.
+// The platform unit: the operations that a host calls, over whatever holds its sixteen records. None of them has a `requires`.
 #![tactic(auto)]
 
-ghost use Rattle.std.specs.Prelude.{◌≡◌};
+ghost use Rattle.std.specs.Prelude.{◌≡◌, true};
 ghost use Rattle.peers.specs.Promises.{Nobody};
-ghost use Rattle.rules.specs.Told.{call_of};
+ghost use Rattle.rules.specs.OnePeer.{answer_number, removal_number, is_early};
+ghost use Rattle.rules.specs.Told.{call_of, incoming};
+ghost use Rattle.platform.specs.Inside.{Settled};
 ghost use Rattle.platform.specs.Promises.{Receives, Removes, LooksUp};
 
-use checks::{Asked, Checked};
-use peers::{Found, Peer, Table};
-use rules::{Answer, Brought, Leaves, LookUp, Removal};
+use peers::{Found, Peer, Places, Table};
+use rules::{Answer, Brought, Incoming, Leaves, LookUp, Removal};
 use units::Tu;
 
-// What a receive gives back: the table, the answer, and how many octets of the reply buffer are the reply.
+// What a receive tells: the answer, and how many octets of the reply buffer are the reply. The rest of the buffer is left alone.
+#[derive(Clone, Copy)]
+pub struct Told {
+    pub answer: Answer,
+    pub length: usize,
+}
+
+// What a receive gives back of a table.
 #[derive(Clone, Copy)]
 pub struct Received {
     pub table: Table,
@@ -19,7 +27,7 @@ pub struct Received {
     pub length: usize,
 }
 
-// What a removal gives back.
+// What a removal gives back of a table.
 #[derive(Clone, Copy)]
 pub struct Removed {
     pub table: Table,
@@ -37,112 +45,118 @@ pub struct LookedUp {
 pub fn empty() -> Table
     ensures { Nobody result }
 {
-    peers::empty()
+    Table::empty()
 }
 
-fn given_back(table: Table, answer: Answer, length: usize) -> Received
-    ensures { result ≡ record { table = table; answer = answer; length = length } }
+// What a frame leaves of an address's record becomes so.
+fn settle<S: Places>(s: &mut S, address: &[u8; 6], leaves: Leaves)
+    ensures { Settled leaves address.now (S.table s.old) (S.table s.new) }
 {
-    Received {
-        table: table,
-        answer: answer,
-        length: length,
+    match leaves {
+        Leaves::Same => {}
+        Leaves::Gone => peers::drop(s, address),
+        Leaves::Becomes(p) => peers::put(s, p),
     }
 }
 
-// A frame is received. The reply is the first `length` octets of its buffer; the rest is left alone.
+// A frame is received.
+pub fn receive_in<S: Places>(s: &mut S, call: Incoming, reply: &mut [u8]) -> Told
+    ensures received { Receives (S.table s.old) (incoming call.entry reply.old) reply.new (record { table = S.table s.new; answer = result.answer; length = result.length }) }
+    ensures early { is_early (answer_number result.answer) ≡ true → s.new ≡ s.old }
+{
+    let Brought {
+        address,
+        reading,
+        ..
+    } = call.brought;
+    let checked = match checks::check_call(s.latest(), call, reply.len()) {
+        Ok(checked) => checked,
+        Err(answer) => return Told { answer, length: 0 },
+    };
+    let found = peers::find(s, &address, reading);
+    let verdict = calls::on_body(peers::shown(s, found), found.is_full(), checked, reply);
+    s.date(reading);
+    settle(s, &address, verdict.leaves);
+    Told {
+        answer: verdict.answer,
+        length: verdict.length,
+    }
+}
+
 pub fn receive(
     mut t: Table,
     brought: Brought,
-    file: &[u8],
+    cache: &[u8],
     key: &[u8],
     mic: &[u8],
     body: &[u8],
     reply: &mut [u8],
 ) -> Received
-    ensures { Receives t (call_of brought file.now key.now mic.now body.now reply.old) reply.new result }
+    ensures { Receives t (call_of brought cache.now key.now mic.now body.now reply.old) reply.new result }
 {
-    let checked = checks::check_call(t.latest, brought, file, reply.len());
-    if let Checked::Failed(answer) = checked {
-        return given_back(t, answer, 0);
-    }
-    let address = brought.address;
-    let reading = brought.reading;
-    let found = peers::find(t, address, reading);
-    let peer = peers::peer_found(t, found);
-    let verdict = calls::on_body(found, peer, brought, file, key, mic, body, reply);
-    let answer = verdict.answer;
-    let length = verdict.length;
-    let leaves = verdict.leaves;
-    let pmkid = verdict.pmkid;
-    t.latest = reading;
-    match leaves {
-        Leaves::Same => given_back(t, answer, length),
-        Leaves::Gone => given_back(peers::drop(t, address), answer, length),
-        Leaves::Becomes(agreed, phase) => {
-            let next = Peer {
-                address: address,
-                agreed: agreed,
-                pmkid: pmkid,
-                phase: phase,
-            };
-            given_back(peers::put(t, next), answer, length)
-        }
-    }
-}
-
-fn taken_out(table: Table, answer: Removal) -> Removed
-    ensures { result ≡ record { table = table; answer = answer } }
-{
-    Removed {
-        table: table,
-        answer: answer,
+    let call = Incoming {
+        brought,
+        cache,
+        key,
+        mic,
+        body,
+    };
+    let Told { answer, length } = receive_in(&mut t, call, reply);
+    Received {
+        table: t,
+        answer,
+        length,
     }
 }
 
 // A peer's record is removed, waiting or installed.
+pub fn remove_in<S: Places>(s: &mut S, address: &[u8; 6], reading: Tu) -> Removal
+    ensures removed { Removes (S.table s.old) address.now reading (record { table = S.table s.new; answer = result }) }
+    ensures early { is_early (removal_number result) ≡ true → s.new ≡ s.old }
+{
+    if let Err(barred) = checks::check_address(s.latest(), *address, reading) {
+        return Removal::from(barred);
+    }
+    let found = peers::find(s, address, reading);
+    s.date(reading);
+    let Found::At(_) = found else {
+        return Removal::NoRecord;
+    };
+    peers::drop(s, address);
+    Removal::Removed
+}
+
 pub fn remove(mut t: Table, address: [u8; 6], reading: Tu) -> Removed
     ensures { Removes t address reading result }
 {
-    let asked = checks::check_address(t.latest, address, reading);
-    match asked {
-        Asked::ClockOut => taken_out(t, Removal::ClockOut),
-        Asked::GroupAddress => taken_out(t, Removal::GroupAddress),
-        Asked::Passed => {
-            let found = peers::find(t, address, reading);
-            t.latest = reading;
-            let Found::At(_) = found else {
-                return taken_out(t, Removal::NoRecord);
-            };
-            taken_out(peers::drop(t, address), Removal::Removed)
-        }
-    }
-}
-
-fn looked(answer: LookUp, peer: Peer) -> LookedUp
-    ensures { result ≡ record { answer = answer; peer = peer } }
-{
-    LookedUp {
-        answer: answer,
-        peer: peer,
-    }
+    let answer = remove_in(&mut t, &address, reading);
+    Removed { table: t, answer }
 }
 
 // The live record of an address. The latest reading stays as it was.
+pub fn look_up_in<S: Places>(s: &S, address: &[u8; 6], reading: Tu) -> LookedUp
+    ensures { LooksUp (S.table s.now) address.now reading result }
+{
+    if let Err(barred) = checks::check_address(s.latest(), *address, reading) {
+        return LookedUp {
+            answer: LookUp::from(barred),
+            peer: Peer::vacant(),
+        };
+    }
+    match peers::shown(s, peers::find(s, address, reading)) {
+        Some(peer) => LookedUp {
+            answer: LookUp::Shown,
+            peer,
+        },
+        None => LookedUp {
+            answer: LookUp::NoRecord,
+            peer: Peer::vacant(),
+        },
+    }
+}
+
 pub fn look_up(t: Table, address: [u8; 6], reading: Tu) -> LookedUp
     ensures { LooksUp t address reading result }
 {
-    let asked = checks::check_address(t.latest, address, reading);
-    match asked {
-        Asked::ClockOut => looked(LookUp::ClockOut, peers::vacant()),
-        Asked::GroupAddress => looked(LookUp::GroupAddress, peers::vacant()),
-        Asked::Passed => {
-            let found = peers::find(t, address, reading);
-            let Found::At(i) = found else {
-                return looked(LookUp::NoRecord, peers::vacant());
-            };
-            let peer = t.peers[i];
-            looked(LookUp::Shown, peer)
-        }
-    }
+    look_up_in(&t, &address, reading)
 }

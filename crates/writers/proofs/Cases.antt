@@ -9,7 +9,6 @@ use Rattle.elements.specs.Body.{body_of}
 use Rattle.scan.specs.Scan.{scan_of}
 use Rattle.suites.specs.declared.Suite.TheVariants.{Ours}
 use Rattle.suites.specs.Suite.{suite_at, suite_octets}
-use Rattle.rsne.specs.declared.Only.{Only}
 use Rattle.layouts.specs.Mic.{mic_octets}
 use Rattle.parameters.specs.Parameters.{parameters_of, parameters_octets}
 use Rattle.rsne.specs.Rsne.{rsne_of, rsne_octets}
@@ -57,8 +56,8 @@ shown pmkids mic = record {
   transaction = 2;
   status = 0;
   group_cipher = Ours 7;
-  pairwise = Only.One (Ours 4);
-  akm = Only.One (Ours 8);
+  pairwise = Some (Ours 4);
+  akm = Some (Ours 8);
   capabilities = 0x00c0;
   pmkids = pmkids;
   management = Ours 7;

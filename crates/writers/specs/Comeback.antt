@@ -1,6 +1,5 @@
 -- The reply that tells a station to come back: status, then PASN Parameters of control 1, format 0, Comeback After and the cookie. No other element, no MIC.
-use Rattle.std.specs.Prelude.{ℕ, ◌+◌, ◌<◌, ◌≤◌, List, ◌++◌}
-use Rattle.std.specs.Prelude.{None, Some}
+use Rattle.std.specs.Prelude.{ℕ, ◌+◌, ◌<◌, ◌≤◌, None, Some, List, ◌++◌}
 use Rattle.parameters.specs.declared.Side.TheVariants.{AccessPoint}
 use Rattle.parameters.specs.Parameters.{parameters_size, parameters_octets}
 use Rattle.writers.specs.Header.{header_size, header_octets}

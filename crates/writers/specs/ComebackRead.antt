@@ -1,16 +1,17 @@
 -- Comeback information as its reader takes it, by the layouts of every frame. None unless the string is a body that walks to its end, with no Fragment, and
 -- has PASN Parameters exactly once: well-formed, B0 set, B1 clear, format 0, and a cookie of at most 32 octets. Other elements are not looked at.
-use Rattle.std.specs.Prelude.{◌≡◌, ℕ, ◌≤◌, List, eqb, leb, length}
-use Rattle.std.specs.Prelude.{Option, None, Some}
+use Rattle.std.specs.Prelude.{◌≡◌, ℕ, ◌≤◌, List, Option, None, Some, is_none, eqb, leb, length}
+use Rattle.std.specs.Result.{result_ok}
 use Rattle.octets.specs.Maybe.{◌>>=◌}
 use Rattle.elements.specs.declared.Part.{Part}
 use Rattle.elements.specs.Body.{body_of}
+use Rattle.elements.specs.Lies.{content}
 use Rattle.scan.specs.Scan.{scan_of}
+use Rattle.scan.specs.Times.{once, is_never}
 use Rattle.parameters.specs.declared.Comeback.{Comeback}
 use Rattle.parameters.specs.declared.Side.TheVariants.{AccessPoint}
 use Rattle.parameters.specs.Parameters.{parameters_of}
-use Rattle.frames.specs.Contents.{content, extended, holds, is_walked, once, never, is_parameters, no_key}
-use Rattle.writers.specs.SecondRead.{is_body}
+use Rattle.frames.specs.Contents.{extended, holds}
 
 -- the cookie is its octets
 pub record ComebackRead : Type 0 where
@@ -20,21 +21,21 @@ pub record ComebackRead : Type 0 where
   pub after : ℕ
   pub cookie : List ℕ
 
--- B0 set: Comeback After and a cookie
+-- with B0 an access point's Comeback After and cookie
 abbrev pub is_after : Comeback → Option (ℕ × Part)
 is_after (Comeback.After after cookie) = Some (after, cookie)
 is_after (Comeback.Cookie cookie) = None
-is_after Comeback.Absent = None
 
 unfoldable pub comeback_in : List ℕ → Option ComebackRead
 comeback_in body = do
-  header ← is_body (body_of body)
-  places ← is_walked (scan_of body)
-  _ ← never places.fragment
+  header ← body_of body
+  places ← result_ok (scan_of body)
+  _ ← holds (is_never places.fragment)
   at_parameters ← once places.parameters
-  parameters ← is_parameters (parameters_of AccessPoint (content body (extended at_parameters)))
-  (after, cookie) ← is_after parameters.comeback
-  _ ← no_key parameters.offer
+  parameters ← parameters_of AccessPoint (content body (extended at_parameters))
+  comeback ← parameters.comeback
+  (after, cookie) ← is_after comeback
+  _ ← holds (is_none parameters.offer)
   _ ← holds (eqb parameters.format 0)
   _ ← holds (leb (length (content (content body (extended at_parameters)) cookie)) 32)
   Some (record {

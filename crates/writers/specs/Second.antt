@@ -1,6 +1,5 @@
 -- The second frame: RSNE, Timeout, PASN Parameters, MIC of zeros, each where the last one ended.
-use Rattle.std.specs.Prelude.{ℕ, ◌+◌, ◌<◌, ◌≤◌, List, ◌++◌}
-use Rattle.std.specs.Prelude.{None, Some}
+use Rattle.std.specs.Prelude.{ℕ, ◌+◌, ◌<◌, ◌≤◌, None, Some, List, ◌++◌}
 use Rattle.suites.specs.Tables.{longest_key, longest_mic}
 use Rattle.parameters.specs.declared.Side.TheVariants.{AccessPoint}
 use Rattle.layouts.specs.Mic.{mic_size, mic_octets}

@@ -6,7 +6,7 @@ ghost use Rattle.writers.specs.ComebackRead.{ReadsBack};
 
 use crate::header;
 use crate::second::SECOND;
-use parameters::{ComebackToWrite, OfferToWrite, ToWrite};
+use parameters::{ComebackToWrite, ToWrite};
 
 pub fn put(d: &mut [u8], algorithm: u16, status: u16, after: u16, cookie: &[u8]) -> usize
     requires { ComebackFits (length cookie.now) (length d.old) }
@@ -14,9 +14,9 @@ pub fn put(d: &mut [u8], algorithm: u16, status: u16, after: u16, cookie: &[u8])
     ensures reads_back { ReadsBack algorithm status after cookie.now (take result d.new) }
 {
     let said = ToWrite {
-        comeback: ComebackToWrite::After(after),
+        comeback: Some(ComebackToWrite::After(after)),
         format: 0,
-        offer: OfferToWrite::Absent,
+        offer: None,
     };
     let a = header::put(d, algorithm, SECOND, status);
     a + parameters::put(&mut d[a..], said, cookie, &[])

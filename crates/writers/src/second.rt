@@ -5,7 +5,7 @@ ghost use Rattle.writers.specs.Second.{SecondFits, longest_second, second_octets
 
 use crate::header;
 use layouts::{mic, timeout};
-use parameters::{ComebackToWrite, OfferToWrite, ToWrite};
+use parameters::ToWrite;
 use suites::{LONGEST_KEY, LONGEST_MIC};
 use units::Seconds;
 
@@ -43,15 +43,14 @@ pub fn put(d: &mut [u8], chosen: Chosen, pmkids: &[u8], key: &[u8]) -> usize
     requires { SecondFits chosen (length pmkids.now) (length key.now) (length d.old) }
     ensures { Wrote (second_octets chosen pmkids.now key.now) result d.old d.new }
 {
-    let lifetime = chosen.lifetime;
     let said = ToWrite {
-        comeback: ComebackToWrite::Absent,
+        comeback: None,
         format: 0,
-        offer: OfferToWrite::Key(chosen.group),
+        offer: Some(chosen.group),
     };
     let a = header::put(d, chosen.algorithm, SECOND, 0);
     let b = a + rsne::put(&mut d[a..], chosen.cipher, chosen.akm, pmkids);
-    let c = b + timeout::put(&mut d[b..], lifetime);
+    let c = b + timeout::put(&mut d[b..], chosen.lifetime);
     let e = c + parameters::put(&mut d[c..], said, &[], key);
     e + mic::put(&mut d[e..], chosen.mic)
 }

@@ -1,7 +1,7 @@
 -- A reply that tells to come back: how long it is, and that it reads back.
 use mathlib.Core.Path.{◌≡◌, sym, ap, ◌∙◌}
 use mathlib.Core.List.{List, [], append-nil}
-use Rattle.std.specs.Prelude.{None, Some}
+use Rattle.std.specs.Prelude.{None, Some, Ok}
 use Rattle.octets.proofs.Options.{some-injective}
 use Prim.Native.Nat.{ℕ, ◌+◌, ◌*◌, ◌/◌, ◌%◌, ◌^◌, ◌<◌, ◌≤◌}
 use native.Mathlib.Omega.{arith}
@@ -10,7 +10,6 @@ use lib.ListN.{length, drop, length-append}
 use Rattle.octets.specs.Numbers.{octets}
 use Rattle.elements.specs.declared.Part.{Part}
 use Rattle.elements.proofs.Written.{written_none, written_more}
-use Rattle.scan.specs.declared.Scan.{Scan}
 use Rattle.scan.specs.declared.Times.TheVariants.{Never, One}
 use Rattle.scan.specs.Scan.{places_of, scan_by, scan_of}
 use Rattle.scan.proofs.Scanning.{in_body}
@@ -18,7 +17,8 @@ use Rattle.parameters.specs.declared.Side.TheVariants.{AccessPoint}
 use Rattle.parameters.specs.Parameters.{Said, content_octets, parameters_octets}
 use Rattle.parameters.proofs.Inverse.{written_reads_back}
 use Rattle.parameters.proofs.Laws.{length_come_back, after_the_extension}
-use Rattle.frames.specs.Contents.{content, extended}
+use Rattle.elements.specs.Lies.{content}
+use Rattle.frames.specs.Contents.{extended}
 use Rattle.writers.specs.Comeback.{comeback_reply, comeback_size}
 use Rattle.writers.specs.ComebackRead.{comeback_in}
 use Rattle.writers.specs.Header.{header_octets}
@@ -48,7 +48,7 @@ module _ (algorithm status after : ℕ) (cookie : List ℕ) where
   in_parameters = record { start = 8; end = length cookie + 14 }
 
   scanned : length s ≤ 1024
-      → scan_of s ≡ Scan.Walked (record { rsne = Never; timeout = Never; mic = Never; fragment = Never; parameters = One in_parameters; wrapped = Never })
+      → scan_of s ≡ Ok (record { rsne = Never; timeout = Never; mic = Never; fragment = Never; parameters = One in_parameters; wrapped = Never })
   unfolding comeback_reply parameters_octets places_of
   scanned h =
       let w₀ = written_none header {n = 6} (length_header algorithm 2 status) in

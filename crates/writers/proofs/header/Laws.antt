@@ -7,7 +7,7 @@ use borrow.Author.Tests.{le-ltb}
 use lib.ListN.{length}
 use Rattle.octets.specs.Numbers.{octets}
 use Rattle.octets.proofs.Numbers.{reads_back}
-use Rattle.elements.specs.declared.Opened.{Opened}
+use Rattle.std.specs.Prelude.{Some}
 use Rattle.elements.specs.Body.{body_of}
 use Rattle.writers.specs.Header.{header_size, header_octets}
 
@@ -19,7 +19,7 @@ module _ (algorithm transaction status : ℕ) where
   module _ (a : algorithm < 2 ^ 16) (t : transaction < 2 ^ 16) (s : status < 2 ^ 16) where
     -- before other octets of a body
     pub header_reads_back : (rest : List ℕ) → length rest ≤ 1018
-        → body_of (header_octets algorithm transaction status ++ rest) ≡ Opened.Body (record { algorithm = algorithm; transaction = transaction; status = status })
+        → body_of (header_octets algorithm transaction status ++ rest) ≡ Some (record { algorithm = algorithm; transaction = transaction; status = status })
     unfolding body_of header_octets octets
     header_reads_back rest h =
         let all : List ℕ = header_octets algorithm transaction status ++ rest in
@@ -32,6 +32,6 @@ module _ (algorithm transaction status : ℕ) where
         )
 
     -- alone
-    pub refusal_reads_back : body_of (header_octets algorithm transaction status) ≡ Opened.Body (record { algorithm = algorithm; transaction = transaction; status = status })
+    pub refusal_reads_back : body_of (header_octets algorithm transaction status) ≡ Some (record { algorithm = algorithm; transaction = transaction; status = status })
     unfolding header_octets octets
     refusal_reads_back = header_reads_back [] (omega arith)

@@ -1,7 +1,7 @@
 -- A second frame, read back, shows exactly what was chosen.
 use mathlib.Core.Path.{◌≡◌, refl, sym, ap, ◌∙◌}
 use mathlib.Core.List.{List, [], ◌++◌, append_assoc, append-nil}
-use Rattle.std.specs.Prelude.{None, Some}
+use Rattle.std.specs.Prelude.{None, Some, Ok}
 use Rattle.octets.proofs.Options.{some-injective}
 use Prim.Native.Nat.{ℕ, ◌+◌, ◌-◌, ◌*◌, ◌^◌, ◌<◌, ◌≤◌}
 use native.Mathlib.Nat.{add-sub_cancel}
@@ -9,16 +9,13 @@ use native.Mathlib.Omega.{arith}
 use lib.ListN.{length, drop, replicate, length-append, length-drop}
 use lib.Seq.{take_at, drop-append-add, drop-append-le}
 use Rattle.octets.specs.Numbers.{octets}
-use Rattle.elements.specs.declared.Opened.{Opened}
 use Rattle.elements.specs.declared.Part.{Part}
-use Rattle.scan.specs.declared.Scan.{Scan}
 use Rattle.scan.specs.declared.Times.TheVariants.{Never, One}
 use Rattle.elements.specs.Body.{body_of}
 use Rattle.scan.specs.Scan.{places_of, scan_by, scan_of}
 use Rattle.scan.proofs.Scanning.{in_body}
 use Rattle.elements.proofs.Written.{written_none, written_more}
 use Rattle.suites.specs.declared.Suite.TheVariants.{Ours}
-use Rattle.rsne.specs.declared.Only.{Only}
 use Rattle.layouts.specs.Mic.{mic_octets}
 use Rattle.parameters.specs.declared.Side.TheVariants.{AccessPoint}
 use Rattle.parameters.specs.Parameters.{Said, content_octets, parameters_octets}
@@ -30,7 +27,8 @@ use Rattle.parameters.proofs.Laws.{length_with_key, after_the_extension}
 use Rattle.rsne.proofs.Laws.{length_rsne, rsne_reads_back, pmkids_content}
 use Rattle.layouts.proofs.timeout.Laws.{length_timeout, timeout_reads_back}
 use Rattle.writers.specs.declared.second.Chosen.{Chosen}
-use Rattle.frames.specs.Contents.{content, extended}
+use Rattle.elements.specs.Lies.{content}
+use Rattle.frames.specs.Contents.{extended}
 use Rattle.writers.specs.Header.{header_octets}
 use Rattle.writers.specs.Second.{second_octets}
 use Rattle.writers.specs.SecondRead.{second_of}
@@ -93,7 +91,7 @@ module _ (chosen : Chosen) (pmkids key : List ℕ) where
   in_mic = record { start = length pmkids + length key + 51; end = length pmkids + length key + chosen.mic + 51 }
 
   second_scanned : length s ≤ 1024
-      → scan_of s ≡ Scan.Walked (record { rsne = One in_rsne; timeout = One in_timeout; mic = One in_mic; fragment = Never; parameters = One in_parameters; wrapped = Never })
+      → scan_of s ≡ Ok (record { rsne = One in_rsne; timeout = One in_timeout; mic = One in_mic; fragment = Never; parameters = One in_parameters; wrapped = Never })
   unfolding second_octets rsne_octets timeout_octets parameters_octets mic_octets places_of
   second_scanned h =
       let w₀ = written_none header {n = 6} (length_header chosen.algorithm 2 0) in
@@ -104,7 +102,7 @@ module _ (chosen : Chosen) (pmkids key : List ℕ) where
       in_body s (omega (arith, length_second chosen pmkids key)) h ∙ ap scan_by w₄.walks
 
   opened : chosen.algorithm < 2 ^ 16 → length s ≤ 1024
-      → body_of s ≡ Opened.Body (record { algorithm = chosen.algorithm; transaction = 2; status = 0 })
+      → body_of s ≡ Some (record { algorithm = chosen.algorithm; transaction = 2; status = 0 })
   unfolding second_octets header_octets octets
   opened small h = header_reads_back chosen.algorithm 2 0 small (omega arith) (omega arith) (rsne ++ timeout ++ parameters ++ mic) (omega arith)
 
@@ -131,8 +129,8 @@ module _ (chosen : Chosen) (pmkids key : List ℕ) where
         transaction = 2;
         status = 0;
         group_cipher = Ours 7;
-        pairwise = Only.One (Ours chosen.cipher);
-        akm = Only.One (Ours chosen.akm);
+        pairwise = Some (Ours chosen.cipher);
+        akm = Some (Ours chosen.akm);
         capabilities = 0x00c0;
         pmkids = pmkids;
         management = Ours 7;

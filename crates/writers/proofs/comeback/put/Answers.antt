@@ -1,21 +1,19 @@
-use mathlib.Core.Path.{◌≡◌, ◌∙◌}
-use Prim.Native.Nat.{◌+◌, ◌%◌, ◌^◌}
+use mathlib.Core.Path.{◌≡◌}
+use Prim.Native.Nat.{◌%◌, ◌^◌}
 use native.Mathlib.Omega.{arith}
-use lib.ListN.{length}
 use Rattle.octets.proofs.Parts.{wrote_room, wrote_more, wrote_stands}
-use Rattle.parameters.specs.Parameters.{parameters_size}
 use Rattle.parameters.proofs.Laws.{length_come_back}
 use Rattle.writers.specs.Comeback.{comeback_reply}
-use Rattle.writers.specs.Header.{header_size}
 use Rattle.writers.proofs.comeback.Laws.{comeback_reads_back}
 use Rattle.writers.proofs.header.Laws.{length_header}
 use Rattle.writers.proofs.comeback.put.Goals as goal
 
 pub put-requires : goal.put-requires
 put-requires c =
-    let t1 : c.put-a.result ≡ header_size = c.put-a.ensures.tells ∙ length_header _ _ _ in
-    let r = wrote_room c.put-a.ensures (length c.args.cookie.now + parameters_size) (omega arith) in
-    record { short = rw length_come_back (omega arith); room = rw length_come_back r.room }
+    record {
+      short = omega (arith, c.requires.cookie, length_come_back);
+      room = (wrote_room c.put-a.ensures _ (omega (arith, c.requires.room, c.put-a.ensures.tells, length_header, length_come_back))).room;
+    }
 
 pub returns-clause-wrote : goal.returns-clause-wrote
 unfolding comeback_reply

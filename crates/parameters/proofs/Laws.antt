@@ -38,13 +38,9 @@ control_by written cookie key = ap₂ (λ (m n : ℕ). m + 2 * n) (comeback writ
     offer None = refl
 
 module _ (side : Side) (said : Said side) where
-  pub length_content : length (content_octets side said) ≡ length (comeback_octets side said.comeback) + length (offer_octets said.offer) + 2
-  unfolding content_octets
-  length_content = omega (arith, length-append (comeback_octets side said.comeback) (offer_octets said.offer))
-
-  pub length_parameters : length (parameters_octets side said) ≡ length (content_octets side said) + 3
-  unfolding parameters_octets
-  length_parameters = omega arith
+  pub length_parameters : length (parameters_octets side said) ≡ length (comeback_octets side said.comeback) + length (offer_octets said.offer) + 5
+  unfolding parameters_octets content_octets
+  length_parameters = omega (arith, length-append (comeback_octets side said.comeback) (offer_octets said.offer))
 
   pub after_the_extension : drop 3 (parameters_octets side said) ≡ content_octets side said
   unfolding parameters_octets
@@ -68,16 +64,14 @@ pub length_with_key : (side : Side) (format group : ℕ) (key : List ℕ)
     → length (parameters_octets side (record { comeback = None; format = format; offer = Some (group, key) })) ≡ length key + parameters_size
 unfolding octets
 length_with_key side format group key =
-    let said : Said side = record { comeback = None; format = format; offer = Some (group, key) } in
-    omega (arith, length_parameters side said, length_content side said)
+    omega (arith, length_parameters side (record { comeback = None; format = format; offer = Some (group, key) }))
 
 -- with Comeback After and a cookie and nothing else
 pub length_come_back : (format after : ℕ) (cookie : List ℕ)
     → length (parameters_octets AccessPoint (record { comeback = Some (after, cookie); format = format; offer = None })) ≡ length cookie + parameters_size
 unfolding octets
 length_come_back format after cookie =
-    let said : Said AccessPoint = record { comeback = Some (after, cookie); format = format; offer = None } in
-    omega (arith, length_parameters AccessPoint said, length_content AccessPoint said)
+    omega (arith, length_parameters AccessPoint (record { comeback = Some (after, cookie); format = format; offer = None }))
 
 -- Each part of what was read lies in a content of n octets.
 abbrev pub ComebackLies : ℕ → Option Comeback → Type 0

@@ -180,6 +180,7 @@ fn put_offer(d: &mut [u8], offer: Option<u16>, key: &[u8]) -> usize
 pub const WITH_KEY: usize = 8;
 
 // Writes a whole element. The cookie and the key are looked at where they are to be written.
+#[tactic(auto, using(crate::proofs::Laws::length_parameters))]
 pub fn put(d: &mut [u8], written: ToWrite, cookie: &[u8], key: &[u8]) -> usize
     requires { Fits 257 (parameters_octets (side_of written.comeback) (said_by written cookie.now key.now)) (length d.old) }
     ensures { Wrote (parameters_octets (side_of written.comeback) (said_by written cookie.now key.now)) result d.old d.new }

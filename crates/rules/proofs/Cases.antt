@@ -8,7 +8,6 @@ use lib.Dec.{eqb}
 use lib.ListN.{length, replicate}
 use Rattle.octets.specs.Numbers.{le, octets}
 use Rattle.octets.specs.Pieces.{pieces}
-use Rattle.std.specs.List.{find}
 use Rattle.units.specs.declared.Tu.{Tu}
 use Rattle.elements.specs.Body.{body_of}
 use Rattle.scan.specs.Scan.{scan_of}
@@ -157,7 +156,7 @@ installed = peer (Installed (tu 590937)) 8 true (id 0xa8) 600
 -- the latest reading is 4,000 TU
 unfoldable pub gets : Bool → Option Peer → Call → Outcome
 unfolding
-    receive_of is_well_formed records_of choice_of pieces find body_of scan_of first_of third_of rsne_of timeout_of parameters_of suite_at le akm_of cipher_of group_of is_key_of
+    receive_of is_well_formed records_of choice_of pieces body_of scan_of first_of third_of rsne_of timeout_of parameters_of suite_at le akm_of cipher_of group_of is_key_of
     header_octets second_octets rsne_octets timeout_octets parameters_octets mic_octets suite_octets octets
 gets full own c = receive_of (tu 4000) full own c
 

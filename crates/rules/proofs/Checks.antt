@@ -32,10 +32,10 @@ settings_range s fit =
       deadline = leb-true s.deadline.0 10000 x.1;
     }
 
-module _ (latest : Tu) (brought : Brought) (cache : List ℕ) (room : ℕ) where
+module _ (latest : Tu) (brought : Brought) (cache : List ℕ) (n : ℕ) where
   pub record AllPass : Type 0 where
     pub clock : clock_fits latest brought.reading ≡ true
-    pub buffer : smallest_buffer ≤ room
+    pub buffer : smallest_buffer ≤ n
     pub settings : settings_fit brought.settings ≡ true
     pub address : is_group_address brought.address ≡ false
     pub formed : is_well_formed cache ≡ true
@@ -45,35 +45,35 @@ module _ (latest : Tu) (brought : Brought) (cache : List ℕ) (room : ℕ) where
   Tells None = AllPass
   Tells (Some answer) = is_early (answer_number answer) ≡ true
 
-  tells : Tells (checks latest brought cache room)
+  tells : Tells (checks latest brought cache n)
   unfolding checks
   tells =
       unless Tells (not (clock_fits latest brought.reading)) refl λ clock.
-      unless Tells (ltb room smallest_buffer) refl λ buffer.
+      unless Tells (ltb n smallest_buffer) refl λ buffer.
       unless Tells (not (settings_fit brought.settings)) refl λ settings.
       unless Tells (is_group_address brought.address) refl λ address.
       unless Tells (not (is_well_formed cache)) refl λ formed.
       record {
         clock = not-false (clock_fits latest brought.reading) clock;
-        buffer = ltb-false room smallest_buffer buffer;
+        buffer = ltb-false n smallest_buffer buffer;
         settings = not-false (settings_fit brought.settings) settings;
         address = address;
         formed = not-false (is_well_formed cache) formed;
       }
 
-  pub checks_pass : checks latest brought cache room ≡ None → AllPass
+  pub checks_pass : checks latest brought cache n ≡ None → AllPass
   checks_pass e = subst Tells e tells
 
-  pub checks_early : {answer : Answer} → checks latest brought cache room ≡ Some answer → is_early (answer_number answer) ≡ true
+  pub checks_early : {answer : Answer} → checks latest brought cache n ≡ Some answer → is_early (answer_number answer) ≡ true
   checks_early e = subst Tells e tells
 
   -- the reading is a clock's, the deadline one of the settings', and the buffer has room
   pub record Ready : Type 0 where
     pub reading : brought.reading.0 ≤ 2 ^ 48
     pub deadline : brought.settings.deadline.0 ≤ 10000
-    pub room : smallest_buffer ≤ room
+    pub room : smallest_buffer ≤ n
 
-  pub checks_ready : checks latest brought cache room ≡ None → Ready
+  pub checks_ready : checks latest brought cache n ≡ None → Ready
   checks_ready e =
       let c = checks_pass e in
       record {
@@ -83,6 +83,6 @@ module _ (latest : Tu) (brought : Brought) (cache : List ℕ) (room : ℕ) where
       }
 
   -- a clock reading that does not fit is answered 1
-  pub checks_clock : clock_fits latest brought.reading ≡ false → checks latest brought cache room ≡ Some Answer.ClockOut
+  pub checks_clock : clock_fits latest brought.reading ≡ false → checks latest brought cache n ≡ Some Answer.ClockOut
   unfolding checks
   checks_clock h = rw h

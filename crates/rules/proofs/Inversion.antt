@@ -2,7 +2,7 @@
 use mathlib.Core.Path.{◌≡◌, refl, sym, ap, subst, ◌∙◌}
 use mathlib.Core.Bool.{Bool, true, false, ◌||◌}
 use mathlib.Core.List.{List}
-use Rattle.std.specs.Prelude.{Option, None, Some, Ok, Err, if◌then◌else◌}
+use Rattle.std.specs.Prelude.{Option, None, Some, ok_or, Ok, Err, if◌then◌else◌}
 use Prim.Native.Nat.{ℕ, ◌*◌, ◌/◌, ◌^◌, ◌<◌}
 use native.Mathlib.Omega.{arith}
 use lib.Dec.{eqb}
@@ -27,7 +27,7 @@ use Rattle.rules.specs.declared.Passed.{Passed}
 use Rattle.rules.specs.declared.Refusal.{Refusal}
 use Rattle.rules.specs.declared.Settings.{Settings}
 use Rattle.rules.specs.declared.Suites.{Suites}
-use Rattle.rules.specs.OnePeer.{Step, ◌>>=◌, terms_of, formed, is_allowed, akm_allowed, grouped, pmkid_chosen, step1, step2, step3, step4, step5, step6, step7, step8, step9, step10, step11, passed_with, lifetime_of, suite_steps, key_steps, steps}
+use Rattle.rules.specs.OnePeer.{Step, ◌>>=◌, terms_of, is_allowed, akm_allowed, pmkid_chosen, step1, step2, step3, step4, step5, step6, step7, step8, step9, step10, step11, passed_with, lifetime_of, suite_steps, key_steps, steps}
 use Rattle.rules.proofs.Pmkids.{in_list, that_part}
 
 ok_same : {A : Type 0} {x y : A} → ◌≡◌ {A = Step A} (Ok x) (Ok y) → x ≡ y
@@ -37,6 +37,11 @@ ok_same e = cc
 chose : {A : Type 0} (b : Bool) (why : Refusal) {x y : A} → (if b then Ok x else Err why) ≡ Ok y → x ≡ y
 chose true why e = ok_same e
 chose false why e = cc
+
+-- what a step found
+pub found : {A : Type 0} (o : Option A) (why : Refusal) {x : A} → ok_or o why ≡ Ok x → o ≡ Some x
+found (Some x) why e = ap Some (ok_same e)
+found None why e = cc
 
 -- a chain that passes passes at its first step, and then
 record Bound {A B : Type 0} (m : Step A) (f : A → Step B) (y : B) : Type 0 where
@@ -93,11 +98,7 @@ group_listed number key point e =
     let b₇ = bound (step7 number) _ e in
     let b₈ = bound (step8 b₇.value key) _ b₇.rest in
     let b₉ = bound (step9 point) _ b₈.rest in
-    go (group_of number) b₇.here ∙ ap Some (ok_same b₉.rest)
-  where
-    go : (entry : Option Group) {g : Group} → grouped entry ≡ Ok g → entry ≡ Some g
-    go (Some g) e = ap Some (ok_same e)
-    go None e = cc
+    found (group_of number) Refusal.Group b₇.here ∙ ap Some (ok_same b₉.rest)
 
 -- A PMKID that was chosen has 16 octets.
 abbrev pub Sixteen : Option (List ℕ) → Type 0
@@ -125,10 +126,6 @@ has_room : (full : Bool) {b : Bool} → step11 full ≡ Ok b → full ≡ false
 has_room true e = cc
 has_room false e = refl
 
-is_facts : (first : Option Facts) {facts : Facts} → formed first ≡ Ok facts → first ≡ Some facts
-is_facts (Some x) e = ap Some (ok_same e)
-is_facts None e = cc
-
 -- What the frame said, and what was chosen of it.
 pub record Passes (brought : Brought) (body : List ℕ) (full : Bool) (passed : Passed) : Type 0 where
   pub facts : Facts
@@ -153,7 +150,7 @@ passes brought cache body full {passed} e =
     let b₅ = bound (step11 full) _ b₄.rest in
     record {
       facts = facts;
-      read = is_facts (first_of body) b₁.here;
+      read = found (first_of body) Refusal.IllFormed b₁.here;
       suites = b₂.value;
       of = suites_same brought.settings facts.format facts.rsne b₂.here;
       group = b₃.value;

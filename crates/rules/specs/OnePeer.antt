@@ -1,5 +1,5 @@
 -- The one-peer rules: what a call gets, by what it brings, this peer's live record or none, and whether sixteen others are live.
-use Rattle.std.specs.Prelude.{ℕ, ◌+◌, ◌/◌, ◌%◌, min, Bool, true, false, ◌&&◌, ◌||◌, not, List, [], eqb, ltb, leb, length, get_or, replicate, if◌then◌else◌, Option, Some, None, is_some, is_none, unwrap_or, Result, Ok, Err}
+use Rattle.std.specs.Prelude.{ℕ, ◌+◌, ◌/◌, ◌%◌, min, Bool, true, false, ◌&&◌, ◌||◌, not, List, [], eqb, ltb, leb, length, get_or, replicate, if◌then◌else◌, Option, Some, None, is_some, is_none, unwrap_or, ok_or, Result, Ok, Err}
 use Rattle.octets.specs.Equality.{same_octets}
 use Rattle.octets.specs.Pieces.{pieces}
 use Rattle.units.specs.declared.Seconds.{Seconds}
@@ -25,7 +25,6 @@ use Rattle.frames.specs.Third.{third_of}
 use Rattle.cache.specs.declared.Choice.{Choice}
 use Rattle.cache.specs.File.{is_well_formed, records_of}
 use Rattle.cache.specs.Search.{choice_of}
-use Rattle.peers.specs.declared.Agreed.{Agreed}
 use Rattle.peers.specs.declared.Peer.{Peer}
 use Rattle.peers.specs.declared.Phase.{Phase}
 use Rattle.peers.specs.declared.Phase.TheVariants.{Waiting, Installed}
@@ -171,12 +170,8 @@ abbrev pub refuse_if : Refusal → Bool → Step Bool
 refuse_if why wrong = if wrong then Err why else Ok true
 
 -- 1. 40: ill-formed
-abbrev pub formed : Option Facts → Step Facts
-formed (Some facts) = Ok facts
-formed None = Err Refusal.IllFormed
-
 abbrev pub step1 : List ℕ → Step Facts
-step1 body = formed (first_of body)
+step1 body = ok_or (first_of body) Refusal.IllFormed
 
 -- 2. 1: format 1 to 3
 abbrev pub step2 : ℕ → Step Bool
@@ -228,12 +223,8 @@ suite_steps settings format rsne = do
   Ok (record { cipher = cipher; akm = akm })
 
 -- 7. 77: group not 19
-abbrev pub grouped : Option Group → Step Group
-grouped (Some group) = Ok group
-grouped None = Err Refusal.Group
-
 abbrev pub step7 : ℕ → Step Group
-step7 number = grouped (group_of number)
+step7 number = ok_or (group_of number) Refusal.Group
 
 -- 8. 40: key length or first octet wrong
 abbrev pub step8 : Group → List ℕ → Step Bool

@@ -1,8 +1,5 @@
 use Rattle.std.proofs.Common.{◌-◌, length}
 use Rattle.list.proofs.list_elements.Given as goal
 
-abbrev pub invariant-loop-out : goal.invariant-loop-out
-invariant-loop-out g l = Unit {0}
-
 abbrev pub decreases-loop-out : goal.decreases-loop-out
 decreases-loop-out g l = length l.body - l.at

@@ -3,7 +3,7 @@ use Rattle.std.proofs.KnownBytes.{Consumes-trans}
 use Rattle.std.proofs.Math.Seq.{take-append-add}
 use Rattle.std.proofs.lemmas.List.{take-append-le}
 use Rattle.std.specs.Io.KnownBytes.{Consumes}
-use Rattle.list.proofs.read_full.Goals as goal
+use Rattle.inputs.proofs.read_full.Goals as goal
 use borrow.Rule.Slice.PartMut.{put_mid, post_of}
 
 -- The front of what a read leaves, which put n octets after the first a.

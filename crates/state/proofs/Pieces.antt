@@ -1,7 +1,7 @@
 -- Pieces of a string: what stands behind them does not matter, and a piece may be put in the place of another.
 use Prim.Native.Nat.{ℕ, zero, suc, ◌+◌, ◌*◌, ◌≤◌, ◌<◌}
 use mathlib.Core.Path.{◌≡◌, refl, ap}
-use mathlib.Core.List.{List, [], ◌∷◌, ◌++◌, map, append_assoc}
+use mathlib.Core.List.{List, ◌∷◌, ◌++◌, append_assoc}
 use native.Mathlib.Nat.{mul-zero, mul-suc}
 use native.Mathlib.Omega.{arith}
 use lib.ListN.{length, take, drop, set, length-drop}
@@ -34,8 +34,3 @@ pieces_put size (suc count) (suc k) s x h l n =
     rw (e, take-add size (size * k) s, f, ← drop-drop (size * k + size) size s) (append_assoc (take size s) (take (size * k) rest) _) in
     rw (whole, take_at (take size s) body size t, drop_at (take size s) body size t)
     (ap (λ (l : List (List ℕ)). take size s ∷ l) (pieces_put size count k rest x (omega arith) l (omega (arith, length-drop size s))))
-
-pub map_set : {A B : Type 0} (f : A → B) (xs : List A) (i : ℕ) (x : A) → map f (set xs i x) ≡ set (map f xs) i (f x)
-map_set f [] i x = refl
-map_set f (y ∷ ys) zero x = refl
-map_set {B = B} f (y ∷ ys) (suc i) x = ap (λ (l : List B). f y ∷ l) (map_set f ys i x)

@@ -6,18 +6,19 @@ ghost use Rattle.state.specs.State.{table_of};
 ghost use Rattle.unit.specs.Promises.{ReceivesIn, LooksUpIn, RemovesIn, KeyAt, ZeroesMicIn, SetsMicIn};
 
 use host::{HostCall, ReceiveResult};
+use state::State;
 use unit::KeyPlace;
 
 #[unsafe(no_mangle)]
-pub extern "C" fn galebeacon_empty(state: &mut [u8; state::SIZE])
-    ensures { Nobody (table_of state.new) }
+pub extern "C" fn galebeacon_empty(state: &mut State)
+    ensures { Nobody (table_of state.new.0) }
 {
     unit::galebeacon_empty(state);
 }
 
 #[unsafe(no_mangle)]
 pub extern "C" fn galebeacon_receive(
-    state: &mut [u8; state::SIZE],
+    state: &mut State,
     call: HostCall,
     cache: &[u8],
     key: &[u8],
@@ -25,30 +26,26 @@ pub extern "C" fn galebeacon_receive(
     body: &[u8],
     reply: &mut [u8],
 ) -> ReceiveResult
-    ensures { ReceivesIn state.old call cache.now key.now mic.now body.now reply.old state.new result reply.new }
+    ensures { ReceivesIn state.old.0 call cache.now key.now mic.now body.now reply.old state.new.0 result reply.new }
 {
     unit::galebeacon_receive(state, call, cache, key, mic, body, reply)
 }
 
 #[unsafe(no_mangle)]
 pub extern "C" fn galebeacon_look_up(
-    state: &[u8; state::SIZE],
+    state: &State,
     address: &[u8; 6],
     reading_tu: u64,
     shown: &mut [u8; records::SIZE],
 ) -> u8
-    ensures { LooksUpIn state.now address.now reading_tu result shown.new }
+    ensures { LooksUpIn state.now.0 address.now reading_tu result shown.new }
 {
     unit::galebeacon_look_up(state, address, reading_tu, shown)
 }
 
 #[unsafe(no_mangle)]
-pub extern "C" fn galebeacon_remove(
-    state: &mut [u8; state::SIZE],
-    address: &[u8; 6],
-    reading_tu: u64,
-) -> u8
-    ensures { RemovesIn state.old address.now reading_tu state.new result }
+pub extern "C" fn galebeacon_remove(state: &mut State, address: &[u8; 6], reading_tu: u64) -> u8
+    ensures { RemovesIn state.old.0 address.now reading_tu state.new.0 result }
 {
     unit::galebeacon_remove(state, address, reading_tu)
 }

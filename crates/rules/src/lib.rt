@@ -51,8 +51,8 @@ pub struct Checked<'a> {
     pub key: &'a [u8],
     pub mic: &'a [u8],
     pub body: &'a [u8],
-    ghost reading: { brought.reading.0 ≤ 2 ^ 48 },
-    ghost deadline: { brought.settings.deadline.0 ≤ 10000 },
+    pub ghost reading: { brought.reading.0 ≤ 2 ^ 48 },
+    pub ghost deadline: { brought.settings.deadline.0 ≤ 10000 },
 }
 
 // Why a first frame is refused: the steps 1 to 11, in order.

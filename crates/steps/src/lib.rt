@@ -1,149 +1,95 @@
 // The steps of the first frame that choose: its suites, its group and the PMKID, and the lifetime.
 #![tactic(auto)]
 
-ghost use Rattle.std.specs.Prelude.{◌≡◌, true, ◌+◌, ◌*◌, ◌≤◌, length, take, drop};
-ghost use Rattle.cache.specs.File.{is_well_formed};
-ghost use Rattle.rules.specs.OnePeer.{is_suite, step4, step5, is_protected, suite_steps, key_steps, step10, lifetime_of};
-ghost use Rattle.steps.specs.Told.{cipher_told, akm_told, suites_told, key_told, pmkid_step_of};
+ghost use Rattle.std.specs.Prelude.{◌≡◌, ◌+◌, ◌*◌, ◌≤◌, length, take, drop};
+ghost use Rattle.suites.specs.Tables.{cipher_of};
+ghost use Rattle.rules.specs.OnePeer.{is_suite, is_allowed, step4, step5, is_protected, suite_steps, key_steps, step10, lifetime_of};
 
-use cache::Choice;
-use frames::contents::Lifetime;
-use rsne::{Only, Rsne};
-use rules::{Refusal, Settings};
-use suites::{Akm, AkmEntry, CipherEntry, GROUP_CIPHER, Group, GroupEntry, Suite};
+use cache::Cache;
+use rsne::Rsne;
+use rules::{Refusal, Settings, Suites};
+use suites::{Akm, GROUP_CIPHER, Group, Suite};
 use units::{Seconds, Tu};
 
-fn is_suite(s: Suite, kind: u8) -> bool
-    ensures { result ≡ is_suite kind s }
+fn is_suite(suite: Suite, kind: u8) -> bool
+    ensures { result ≡ is_suite kind suite }
 {
-    match s {
-        Suite::Ours(k) => k == kind,
-        Suite::Other => false,
-    }
+    suite == Suite::Ours(kind)
 }
 
-#[derive(Clone, Copy)]
-enum CipherStep {
-    Chosen(u8),
-    Refused,
+// Whether a cipher is in the table, and the settings allow it.
+#[tactic(auto, using(suites::proofs::Laws::cipher_found))]
+fn is_allowed(settings: Settings, kind: u8) -> bool
+    ensures { result ≡ is_allowed settings (cipher_of kind) }
+{
+    match suites::cipher_of(kind) {
+        Some(cipher) => settings.ciphers / cipher.flag % 2 == 1,
+        None => false,
+    }
 }
 
 // Step 4.
-fn choose_cipher(settings: Settings, pairwise: Only) -> CipherStep
-    ensures { cipher_told result ≡ step4 settings pairwise }
+fn choose_cipher(settings: Settings, pairwise: Option<Suite>) -> Result<u8, Refusal>
+    ensures { result ≡ step4 settings pairwise }
 {
-    let Only::One(suite) = pairwise else {
-        return CipherStep::Refused;
-    };
-    let Suite::Ours(kind) = suite else {
-        return CipherStep::Refused;
-    };
-    let entry = suites::cipher_of(kind);
-    let CipherEntry::In(cipher) = entry else {
-        return CipherStep::Refused;
-    };
-    if settings.ciphers / cipher.flag % 2 == 1 {
-        return CipherStep::Chosen(kind);
+    match pairwise {
+        Some(Suite::Ours(kind)) if is_allowed(settings, kind) => Ok(kind),
+        _ => Err(Refusal::PairwiseCipher),
     }
-    CipherStep::Refused
 }
 
 // Step 5.
-fn choose_akm(settings: Settings, akm: Only) -> AkmEntry
-    ensures { akm_told result ≡ step5 settings akm }
+fn choose_akm(settings: Settings, akm: Option<Suite>) -> Result<Akm, Refusal>
+    ensures { result ≡ step5 settings akm }
 {
-    let Only::One(suite) = akm else {
-        return AkmEntry::NotInTable;
+    let Some(Suite::Ours(kind)) = akm else {
+        return Err(Refusal::Akm);
     };
-    let Suite::Ours(kind) = suite else {
-        return AkmEntry::NotInTable;
-    };
-    let entry = suites::akm_of(kind);
-    let AkmEntry::In(found) = entry else {
-        return AkmEntry::NotInTable;
-    };
-    if found.pmk {
-        return AkmEntry::In(found);
+    match suites::akm_of(kind) {
+        Some(akm) if akm.pmk || settings.pmkless => Ok(akm),
+        _ => Err(Refusal::Akm),
     }
-    if settings.pmkless {
-        return AkmEntry::In(found);
-    }
-    AkmEntry::NotInTable
 }
 
 // Step 6: MFPC (bit 7) and MFPR (bit 6) set, No Pairwise (bit 1) clear.
 fn is_protected(capabilities: u16) -> bool
     ensures { result ≡ is_protected capabilities }
 {
-    if capabilities / 128 % 2 == 1 {
-        if capabilities / 64 % 2 == 1 {
-            return capabilities / 2 % 2 == 0;
-        }
-    }
-    false
-}
-
-#[derive(Clone, Copy)]
-pub enum SuiteSteps {
-    Passed { cipher: u8, akm: Akm },
-    Refused(Refusal),
+    capabilities / 128 % 2 == 1 && capabilities / 64 % 2 == 1 && capabilities / 2 % 2 == 0
 }
 
 // Steps 2 to 6.
-pub fn suite_steps(settings: Settings, format: u8, rsne: Rsne) -> SuiteSteps
-    ensures { suites_told result ≡ suite_steps settings format rsne }
+#[tactic(auto, unfolding(rules::specs::OnePeer::suite_steps))]
+pub fn suite_steps(settings: Settings, format: u8, rsne: Rsne) -> Result<Suites, Refusal>
+    ensures { result ≡ suite_steps settings format rsne }
 {
-    let group = rsne.group;
-    let management = rsne.management;
-    let pairwise = rsne.pairwise;
-    let akms = rsne.akm;
     if format != 0 {
-        return SuiteSteps::Refused(Refusal::Wrapped);
+        return Err(Refusal::Wrapped);
     }
-    if !is_suite(group, GROUP_CIPHER) {
-        return SuiteSteps::Refused(Refusal::GroupCipher);
+    if !is_suite(rsne.group, GROUP_CIPHER) || !is_suite(rsne.management, GROUP_CIPHER) {
+        return Err(Refusal::GroupCipher);
     }
-    if !is_suite(management, GROUP_CIPHER) {
-        return SuiteSteps::Refused(Refusal::GroupCipher);
+    let cipher = choose_cipher(settings, rsne.pairwise)?;
+    let akm = choose_akm(settings, rsne.akm)?;
+    if !is_protected(rsne.capabilities) {
+        return Err(Refusal::Unprotected);
     }
-    let chosen = choose_cipher(settings, pairwise);
-    let CipherStep::Chosen(cipher) = chosen else {
-        return SuiteSteps::Refused(Refusal::PairwiseCipher);
-    };
-    let entry = choose_akm(settings, akms);
-    let AkmEntry::In(akm) = entry else {
-        return SuiteSteps::Refused(Refusal::Akm);
-    };
-    if is_protected(rsne.capabilities) {
-        return SuiteSteps::Passed {
-            cipher: cipher,
-            akm: akm,
-        };
-    }
-    SuiteSteps::Refused(Refusal::Unprotected)
-}
-
-#[derive(Clone, Copy)]
-pub enum KeySteps {
-    Passed(Group),
-    Refused(Refusal),
+    Ok(Suites { cipher, akm })
 }
 
 // Steps 7 to 9.
-pub fn key_steps(number: u16, key: &[u8], point: bool) -> KeySteps
-    ensures { key_told result ≡ key_steps number key.now point }
+#[tactic(auto, unfolding(rules::specs::OnePeer::key_steps))]
+pub fn key_steps(number: u16, key: &[u8], point: bool) -> Result<Group, Refusal>
+    ensures { result ≡ key_steps number key.now point }
 {
-    let entry = suites::group_of(number);
-    let GroupEntry::In(group) = entry else {
-        return KeySteps::Refused(Refusal::Group);
-    };
-    if !suites::is_key_of(group, key) {
-        return KeySteps::Refused(Refusal::KeyForm);
+    let group = suites::group_of(number).ok_or(Refusal::Group)?;
+    if !group.is_key(key) {
+        return Err(Refusal::KeyForm);
     }
     if !point {
-        return KeySteps::Refused(Refusal::Point);
+        return Err(Refusal::Point);
     }
-    KeySteps::Passed(group)
+    Ok(group)
 }
 
 // The PMKID of a number in a list.
@@ -151,56 +97,38 @@ fn pmkid_at(pmkids: &[u8], k: usize) -> [u8; 16]
     requires { 16 * k + 16 ≤ length pmkids.now }
     ensures { result ≡ take 16 (drop (16 * k) pmkids.now) }
 {
-    let mut pmkid = [0u8; 16];
-    let start = 16 * k;
-    let end = start + 16;
-    octets::copy_in(&mut pmkid, &pmkids[start..end]);
-    pmkid
+    pmkids[16 * k..16 * k + 16].try_into().unwrap()
 }
 
-// What step 10 shows: whether it passed, and the PMKID that was chosen, or none, and then zeros.
-#[derive(Clone, Copy)]
-pub struct PmkidStep {
-    pub passed: bool,
-    pub cached: bool,
-    pub pmkid: [u8; 16],
-}
-
-pub fn pmkid_step(akm: Akm, file: &[u8], pmkids: &[u8], reading: Tu) -> PmkidStep
-    requires { is_well_formed file.now ≡ true }
-    ensures { result ≡ pmkid_step_of (step10 akm file.now reading pmkids.now) }
+// Step 10: the PMKID that was chosen, or none.
+#[tactic(auto, using(rules::proofs::Pmkids::that_part))]
+pub fn pmkid_step(
+    akm: Akm,
+    cache: Cache,
+    pmkids: &[u8],
+    reading: Tu,
+) -> Result<Option<[u8; 16]>, Refusal>
+    ensures { result ≡ step10 akm cache.entry.octets.now reading pmkids.now }
 {
     if akm.pmk {
-        let choice = cache::choose(file, pmkids, akm.kind, reading);
-        let Choice::Chosen { pmkid, end: _ } = choice else {
-            return PmkidStep {
-                passed: false,
-                cached: false,
-                pmkid: [0; 16],
-            };
-        };
-        let chosen = pmkid_at(pmkids, pmkid);
-        return PmkidStep {
-            passed: true,
-            cached: true,
-            pmkid: chosen,
-        };
+        let choice = cache
+            .choose(pmkids, akm.kind, reading)
+            .ok_or(Refusal::Pmkid)?;
+        return Ok(Some(pmkid_at(pmkids, choice.pmkid)));
     }
-    PmkidStep {
-        passed: pmkids.len() == 0,
-        cached: false,
-        pmkid: [0; 16],
+    if pmkids.len() == 0 {
+        Ok(None)
+    } else {
+        Err(Refusal::Pmkid)
     }
 }
 
-pub fn lifetime_of(most: Seconds, asked: Lifetime) -> Seconds
+// The smaller of the settings' lifetime and the frame's, if it has one.
+pub fn lifetime_of(most: Seconds, asked: Option<Seconds>) -> Seconds
     ensures { result ≡ lifetime_of most asked }
 {
-    let Lifetime::Asked(s) = asked else {
-        return most;
-    };
-    if s.0 < most.0 {
-        return s;
+    match asked {
+        Some(asked) => most.min(asked),
+        None => most,
     }
-    most
 }

@@ -10,7 +10,7 @@ use Rattle.rules.specs.OnePeer.{clock_fits, is_group_address, checks}
 use Rattle.rules.specs.Told.{incoming, checked}
 use Rattle.checks.specs.declared.Barred.{Barred}
 
--- The answer of the check that failed, or the same receive once none did, and the reply buffer, of `room` octets, has room for the longest second frame.
+-- the answer of the check that failed; or the same receive, where none did
 abbrev pub Checks : Tu → Incoming → ℕ → Result Checked Answer → Type 0
 Checks latest call room r =
     MatchResult r

@@ -1,10 +1,8 @@
 // The checks of a call before the records and the frame are looked at: the answers 1 to 5.
 #![tactic(auto)]
 
-ghost use Rattle.std.specs.Prelude.{◌≡◌, IfSome};
+ghost use Rattle.std.specs.Prelude.{◌≡◌};
 ghost use Rattle.rules.specs.OnePeer.{clock_fits, settings_fit, is_group_address, checks};
-ghost use Rattle.rules.specs.declared.LookUp.{LookUp};
-ghost use Rattle.rules.specs.declared.Removal.{Removal};
 ghost use Rattle.checks.specs.Checked.{Checks, barred_of, removal_of, look_up_of};
 
 use cache::Cache;
@@ -37,8 +35,9 @@ fn is_group_address(address: [u8; 6]) -> bool
 }
 
 // What a receive is checked for, in the order of the answers.
+#[tactic(auto, unfolding(rules::specs::OnePeer::checks))]
 pub fn check_call(latest: Tu, call: Incoming, room: usize) -> Result<Checked, Answer>
-    ensures { Checks latest call room result }
+    ensures { Checks latest call.entry room result }
 {
     let brought = call.brought;
     if !clock_fits(latest, brought.reading) {
@@ -95,6 +94,7 @@ impl From<Barred> for LookUp {
 }
 
 // What a removal and a look-up are checked for.
+#[tactic(auto, unfolding(crate::specs::Checked::barred_of))]
 pub fn check_address(latest: Tu, address: [u8; 6], reading: Tu) -> Result<(), Barred>
     ensures { result ≡ barred_of latest reading address }
 {

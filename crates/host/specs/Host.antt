@@ -1,6 +1,5 @@
 -- What a host's numbers mean, and the numbers that it is told.
-use Rattle.std.specs.Prelude.{ℕ}
-use Rattle.std.specs.Prelude.{Option, None, Some}
+use Rattle.std.specs.Prelude.{ℕ, unwrap_or}
 use Rattle.rules.specs.declared.Answer.{Answer}
 use Rattle.rules.specs.declared.Brought.{Brought}
 use Rattle.rules.specs.declared.Settings.{Settings}
@@ -27,12 +26,8 @@ brought_of call = record {
 }
 
 -- the status beside 11, and 0 beside any other answer
-abbrev pub or_zero : Option ℕ → ℕ
-or_zero None = 0
-or_zero (Some n) = n
-
 abbrev pub status_number : Answer → ℕ
-status_number answer = or_zero (status_beside answer)
+status_number answer = unwrap_or (status_beside answer) 0
 
 abbrev pub receive_result_of : Answer → ℕ → ReceiveResult
 receive_result_of answer length = record { answer = answer_number answer; status = status_number answer; length = length }

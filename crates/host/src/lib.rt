@@ -2,7 +2,7 @@
 #![tactic(auto)]
 
 ghost use Rattle.std.specs.Prelude.{◌≡◌};
-ghost use Rattle.host.specs.Host.{settings_of, brought_of, status_number, receive_result_of};
+ghost use Rattle.host.specs.Host.{settings_of, brought_of, receive_result_of};
 
 use rules::{Answer, Brought, Lent, Settings};
 use units::{Seconds, Tu};
@@ -36,47 +36,44 @@ pub struct ReceiveResult {
     pub length: usize,
 }
 
-fn settings_of(s: HostSettings) -> Settings
-    ensures { result ≡ settings_of s }
-{
-    Settings {
-        pmkless: records::is_yes(s.allow_pmkless),
-        ciphers: s.allow_ciphers,
-        lifetime: Seconds(s.lifetime_seconds),
-        deadline: Tu(s.deadline_tu),
+impl From<HostSettings> for Settings {
+    ghost from_gives = { λ host settings. settings ≡ settings_of host };
+
+    fn from(host: HostSettings) -> Settings {
+        Settings {
+            pmkless: records::is_yes(host.allow_pmkless),
+            ciphers: host.allow_ciphers,
+            lifetime: Seconds(host.lifetime_seconds),
+            deadline: Tu(host.deadline_tu),
+        }
     }
 }
 
-pub fn brought_of(call: HostCall) -> Brought
-    ensures { result ≡ brought_of call }
-{
-    let address = call.address;
-    let settings = call.settings;
-    Brought {
-        settings: settings_of(settings),
-        reading: Tu(call.reading_tu),
-        address: address,
-        lent: Lent {
-            point: records::is_yes(call.point_valid),
-        },
+impl From<HostCall> for Brought {
+    ghost from_gives = { λ host brought. brought ≡ brought_of host };
+
+    fn from(host: HostCall) -> Brought {
+        let address = host.address;
+        Brought {
+            settings: Settings::from(host.settings),
+            reading: Tu(host.reading_tu),
+            address,
+            lent: Lent {
+                point: records::is_yes(host.point_valid),
+            },
+        }
     }
 }
 
-fn status_number(answer: Answer) -> u16
-    ensures { result ≡ status_number answer }
-{
-    match answer {
-        Answer::Refused(why) => rules::status_of(why),
-        _ => 0,
-    }
-}
-
-pub fn receive_result(answer: Answer, length: usize) -> ReceiveResult
-    ensures { result ≡ receive_result_of answer length }
-{
-    ReceiveResult {
-        answer: rules::answer_number(answer),
-        status: status_number(answer),
-        length: length,
+impl ReceiveResult {
+    // What tells of an answer, and of how many octets the reply has.
+    pub fn of(answer: Answer, length: usize) -> ReceiveResult
+        ensures { result ≡ receive_result_of answer length }
+    {
+        ReceiveResult {
+            answer: u8::from(answer),
+            status: answer.status().unwrap_or(0),
+            length,
+        }
     }
 }

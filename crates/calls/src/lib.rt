@@ -38,7 +38,7 @@ fn on_first(
     reply: &mut [u8],
 ) -> Verdict
     requires { smallest_buffer ≤ length reply.old }
-    ensures { Gets (first_frame call.brought call.cache.octets.now call.key.now call.body.now algorithm full own) reply.old reply.new result }
+    ensures { Gets (first_frame call.entry.brought call.entry.cache.octets.now call.entry.key.now call.entry.body.now algorithm full own) reply.old reply.new result }
 {
     if is_installed(own) {
         return Verdict::silent(Answer::PeerInstalled, Leaves::Same);
@@ -47,7 +47,7 @@ fn on_first(
 }
 
 fn on_third(own: Option<Peer>, call: Checked, status: u16) -> Verdict
-    ensures { Decides (third_frame call.brought.reading call.mic.now call.body.now status own) result }
+    ensures { Decides (third_frame call.entry.brought.reading call.entry.mic.now call.entry.body.now status own) result }
 {
     let Some(peer) = own else {
         return Verdict::silent(Answer::NoExchange, Leaves::Same);
@@ -68,7 +68,7 @@ fn on_other(own: Option<Peer>) -> Verdict
 // What a body gets, once the call is checked.
 pub fn on_body(own: Option<Peer>, full: bool, call: Checked, reply: &mut [u8]) -> Verdict
     requires { smallest_buffer ≤ length reply.old }
-    ensures { BodyGets (checked call reply.old) full own reply.new result }
+    ensures { BodyGets (checked call.entry reply.old) full own reply.new result }
 {
     let Some(header) = elements::open_body(call.body) else {
         return Verdict::silent(Answer::BodyLength, Leaves::Same);

@@ -22,7 +22,7 @@ fn installed(lifetime: Seconds, reading: Tu) -> Phase
 
 // What a third frame gets of a peer with a live record.
 pub fn answer(peer: Peer, call: Checked, status: u16) -> Verdict
-    ensures { Decides (third_frame call.brought.reading call.mic.now call.body.now status (Some peer)) result }
+    ensures { Decides (third_frame call.entry.brought.reading call.entry.mic.now call.entry.body.now status (Some peer)) result }
 {
     let Phase::Waiting(_) = peer.phase else {
         return Verdict::silent(Answer::NoExchange, Leaves::Same);

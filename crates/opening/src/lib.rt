@@ -40,7 +40,7 @@ fn passed_with(
 
 // The eleven steps.
 fn decide(call: Checked, full: bool) -> Result<Passed, Refusal>
-    ensures { result ≡ steps call.brought call.cache.octets.now call.body.now full }
+    ensures { result ≡ steps call.entry.brought call.entry.cache.octets.now call.entry.body.now full }
 {
     let Brought {
         settings,
@@ -89,7 +89,7 @@ fn refuse_with(algorithm: u16, waiting: bool, why: Refusal, reply: &mut [u8]) ->
 // The second frame, for a frame that passed the steps, where our own key is one of its group.
 fn accept(call: Checked, passed: Passed, algorithm: u16, reply: &mut [u8]) -> Verdict
     requires { ReplyFits passed call.key.now (length reply.old) }
-    ensures { Gets (acceptance call.brought call.key.now algorithm passed) reply.old reply.new result }
+    ensures { Gets (acceptance call.entry.brought call.entry.key.now algorithm passed) reply.old reply.new result }
 {
     let brought = call.brought;
     if !passed.group.is_key(call.key) {
@@ -136,7 +136,7 @@ pub fn answer(
     reply: &mut [u8],
 ) -> Verdict
     requires { smallest_buffer ≤ length reply.old }
-    ensures { Gets (first_outcome call.brought call.key.now algorithm waiting (steps call.brought call.cache.octets.now call.body.now full)) reply.old reply.new result }
+    ensures { Gets (first_outcome call.entry.brought call.entry.key.now algorithm waiting (steps call.entry.brought call.entry.cache.octets.now call.entry.body.now full)) reply.old reply.new result }
 {
     match decide(call, full) {
         Err(why) => refuse_with(algorithm, waiting, why, reply),

@@ -72,7 +72,7 @@ impl Peer {
     pub fn is_of(&self, address: &[u8; 6]) -> bool
         ensures { result ≡ is_of self.now address.now }
     {
-        octets::same(&self.address, address)
+        self.address == *address
     }
 }
 

@@ -71,7 +71,8 @@ pub fn is_of(r: &[u8], address: &[u8; 6]) -> bool
     requires { record_size ≤ length r.now }
     ensures { result ≡ is_of (peer_of r.now) address.now }
 {
-    octets::same(&r[ADDRESS_AT..HAS_PMKID_AT], address)
+    let own: [u8; 6] = r[ADDRESS_AT..HAS_PMKID_AT].try_into().unwrap();
+    own == *address
 }
 
 // The record at the front of r.

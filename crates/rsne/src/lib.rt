@@ -32,6 +32,7 @@ fn only_of(content: &[u8], count: usize, at: usize) -> Option<Suite>
     }
 }
 
+#[tactic(auto, unfolding(crate::specs::Rsne::rsne_of, crate::specs::Rsne::pairwise_count, crate::specs::Rsne::akm_count, crate::specs::Rsne::pmkid_count))]
 pub fn read(content: &[u8]) -> Option<Rsne>
     ensures { result ≡ rsne_of content.now }
 {

@@ -7,6 +7,7 @@ ghost use Rattle.layouts.specs.Mic.{mic_size, mic_octets};
 pub const LENGTH: usize = 2;
 
 // A MIC element of n zeros.
+#[tactic(auto, unfolding(crate::specs::Mic::mic_octets))]
 pub fn put(d: &mut [u8], n: usize) -> usize
     requires { (n < 256) × (n + mic_size ≤ length d.old) }
     ensures { Wrote (mic_octets n) result d.old d.new }

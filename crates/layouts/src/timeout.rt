@@ -27,6 +27,7 @@ pub fn read(content: &[u8]) -> Option<Seconds>
 // The octets of an element.
 pub const LENGTH: usize = 7;
 
+#[tactic(auto, unfolding(crate::specs::Timeout::timeout_octets))]
 pub fn put(d: &mut [u8], lifetime: Seconds) -> usize
     requires { timeout_size ≤ length d.old }
     ensures { Wrote (timeout_octets lifetime) result d.old d.new }

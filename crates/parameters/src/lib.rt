@@ -97,7 +97,7 @@ fn read_offer(content: &[u8], at: usize) -> Option<Option<Offer>>
     }))
 }
 
-#[tactic(auto, unfolding(crate::specs::Parameters::parameters_of))]
+#[tactic(auto, using(crate::proofs::Laws::comeback_ends), unfolding(crate::specs::Parameters::parameters_of))]
 pub fn read(content: &[u8], side: Side) -> Option<Parameters>
     ensures { result ≡ parameters_of side content.now }
 {
@@ -147,6 +147,7 @@ fn put_counted(d: &mut [u8], s: &[u8]) -> usize
 }
 
 // A number of two octets before them.
+#[tactic(auto, unfolding(octets::specs::Numbers::octets))]
 fn put_numbered(d: &mut [u8], n: u16, s: &[u8]) -> usize
     requires { (length s.now < 256) × (length s.now + 3 ≤ length d.old) }
     ensures { Wrote (octets 2 n ++ counted s.now) result d.old d.new }
@@ -166,6 +167,7 @@ fn put_comeback(d: &mut [u8], comeback: Option<ComebackToWrite>, cookie: &[u8]) 
     }
 }
 
+#[tactic(auto, unfolding(octets::specs::Numbers::octets))]
 fn put_offer(d: &mut [u8], offer: Option<u16>, key: &[u8]) -> usize
     requires { Fits 255 (offer_octets (offer_by offer key.now)) (length d.old) }
     ensures { Wrote (offer_octets (offer_by offer key.now)) result d.old d.new }

@@ -3,25 +3,10 @@ use Prim.Native.Nat.{◌≤◌}
 use lib.ListN.{length, take}
 use lib.Seq.{length-take-le}
 use mathlib.Core.Path.{◌∙◌}
-use Rattle.octets.proofs.Parts.{wrote_front, wrote_room, wrote_more}
+use Rattle.octets.proofs.Parts.{wrote_front, wrote_more}
 use Rattle.parameters.specs.Parameters.{side_of, said_by}
 use Rattle.parameters.proofs.Laws.{control_by, length_parameters, wrote_parameters}
 use Rattle.parameters.proofs.put.Goals as goal
-
-pub put_comeback-requires : goal.put_comeback-requires
-put_comeback-requires c =
-    record {
-      short = omega (arith, c.requires.short, length_parameters);
-      room = (wrote_room (wrote_front c.args.d.now 5 (omega (arith, c.requires.room, length_parameters))) _ (omega (arith, c.requires.room, length_parameters))).room;
-    }
-
-pub put_offer-requires : goal.put_offer-requires
-put_offer-requires c =
-    let w = wrote_more (wrote_front c.args.d.now 5 (omega (arith, c.requires.room, length_parameters))) c.put_comeback.ensures in
-    record {
-      short = omega (arith, c.requires.short, length_parameters);
-      room = (wrote_room w _ (omega (arith, c.requires.room, length_parameters, c.put_comeback.ensures.tells))).room;
-    }
 
 pub returns : goal.returns
 returns c =

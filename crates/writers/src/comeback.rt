@@ -8,6 +8,7 @@ use crate::header;
 use crate::second::SECOND;
 use parameters::{ComebackToWrite, ToWrite};
 
+#[tactic(auto, using(crate::proofs::header::Laws::length_header, parameters::proofs::Laws::length_come_back), unfolding(crate::specs::Comeback::comeback_reply))]
 pub fn put(d: &mut [u8], algorithm: u16, status: u16, after: u16, cookie: &[u8]) -> usize
     requires { ComebackFits (length cookie.now) (length d.old) }
     ensures wrote { Wrote (comeback_reply algorithm status after cookie.now) result d.old d.new }

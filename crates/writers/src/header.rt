@@ -8,6 +8,7 @@ use octets::Number;
 // The octets of a header.
 pub const LENGTH: usize = 6;
 
+#[tactic(auto, unfolding(octets::specs::Numbers::octets, crate::specs::Header::header_octets))]
 pub fn put(d: &mut [u8], algorithm: u16, transaction: u16, status: u16) -> usize
     requires { header_size ≤ length d.old }
     ensures { Wrote (header_octets algorithm transaction status) result d.old d.new }

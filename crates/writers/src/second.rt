@@ -39,6 +39,7 @@ pub struct Chosen {
     pub mic: usize,
 }
 
+#[tactic(auto, using(crate::proofs::second::Laws::lengths), unfolding(crate::specs::Second::second_octets))]
 pub fn put(d: &mut [u8], chosen: Chosen, pmkids: &[u8], key: &[u8]) -> usize
     requires { SecondFits chosen (length pmkids.now) (length key.now) (length d.old) }
     ensures { Wrote (second_octets chosen pmkids.now key.now) result d.old d.new }

@@ -6,7 +6,7 @@ use Rattle.octets.proofs.Options.{some-injective}
 use Prim.Native.Nat.{ℕ, ◌+◌, ◌-◌, ◌*◌, ◌^◌, ◌<◌, ◌≤◌}
 use native.Mathlib.Nat.{add-sub_cancel}
 use native.Mathlib.Omega.{arith}
-use lib.ListN.{length, drop, replicate, length-append, length-drop}
+use lib.ListN.{length, drop, replicate, length-drop}
 use lib.Seq.{take_at, drop-append-add, drop-append-le}
 use Rattle.octets.specs.Numbers.{octets}
 use Rattle.elements.specs.declared.Part.{Part}
@@ -33,15 +33,13 @@ use Rattle.writers.specs.Header.{header_octets}
 use Rattle.writers.specs.Second.{second_octets}
 use Rattle.writers.specs.SecondRead.{second_of}
 use Rattle.writers.proofs.header.Laws.{length_header, header_reads_back}
-use Rattle.writers.proofs.second.Laws.{length_second}
+use Rattle.writers.proofs.second.Laws.{lengths, length_second}
 
 -- the octets of an element in a string, from the k-th on
 pub part_content : (s before w after : List ℕ) (k : ℕ) (p : Part) → s ≡ before ++ w ++ after
     → (k ≤ length w) × (p.start ≡ length before + k) × (p.end ≡ length before + length w) → content s p ≡ drop k w
 part_content s before w after k p is (h, a, b) =
     rw (is, a, b, append_assoc, drop-append-add, drop-append-le) (take_at (drop k w) after (length before + length w - (length before + k)) (omega (arith, length-drop k w)))
-
-ruleset lengths = (length-append, length_header, length_rsne, length_timeout, length_with_key, length_mic)
 
 -- What fits the layouts: numbers of two octets, a lifetime of four that is not 0, lengths of one, and p whole PMKIDs.
 pub record Readable (chosen : Chosen) (pmkids key : List ℕ) (p : ℕ) : Type 0 where

@@ -1,23 +1,10 @@
 use mathlib.Core.Path.{◌≡◌}
 use Prim.Native.Nat.{◌%◌, ◌^◌}
 use native.Mathlib.Omega.{arith}
-use Rattle.octets.proofs.Parts.{wrote_room, wrote_more, wrote_stands}
-use Rattle.parameters.proofs.Laws.{length_come_back}
+use Rattle.octets.proofs.Parts.{wrote_more, wrote_stands}
 use Rattle.writers.specs.Comeback.{comeback_reply}
 use Rattle.writers.proofs.comeback.Laws.{comeback_reads_back}
-use Rattle.writers.proofs.header.Laws.{length_header}
 use Rattle.writers.proofs.comeback.put.Goals as goal
-
-pub put-requires : goal.put-requires
-put-requires c =
-    record {
-      short = omega (arith, c.requires.cookie, length_come_back);
-      room = (wrote_room c.put-a.ensures _ (omega (arith, c.requires.room, c.put-a.ensures.tells, length_header, length_come_back))).room;
-    }
-
-pub returns-clause-wrote : goal.returns-clause-wrote
-unfolding comeback_reply
-returns-clause-wrote c = wrote_more c.put-a.ensures c.put.ensures
 
 pub returns-clause-reads_back : goal.returns-clause-reads_back
 unfolding comeback_reply

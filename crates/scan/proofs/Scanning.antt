@@ -1,12 +1,13 @@
 -- Laws of the scan: one element more, how far it has come, and that what it finds lies within the body.
-use mathlib.Core.Path.{◌≡◌, refl, sym, ap, ap₂, ◌∙◌, subst}
+use mathlib.Core.Path.{◌≡◌, refl, sym, ap, ◌∙◌, subst}
 use mathlib.Core.Bool.{Bool, true, false}
 use mathlib.Core.List.{List, [], ◌∷◌, ◌++◌, append-nil}
 use Prim.Native.Nat.{ℕ, ◌≤◌}
 use native.Mathlib.Omega.{arith}
-use borrow.Author.Tests.{le-ltb, eqb-true}
+use borrow.Author.Tests.{eqb-true}
 use lib.Dec.{ltb, eqb}
 use lib.ListN.{length, get_or}
+use Rattle.std.proofs.lemmas.List.Elements.{filter-append}
 use Rattle.std.specs.Prelude.{Option, None, Ok, if◌then◌else◌}
 use Rattle.elements.specs.declared.Element.{Element}
 use Rattle.elements.specs.declared.Part.{Part}
@@ -18,7 +19,7 @@ use Rattle.scan.specs.declared.Places.{Places}
 use Rattle.elements.specs.Met.{met_at}
 use Rattle.elements.specs.Walk.{Walk, walked, failed_at, ◌then◌, walk, walk_body}
 use Rattle.scan.specs.Scan.{plain_kind, kind_by, kind_of, is_kind, of_kind, times_of, places_of, scan_by, scan_of}
-use Rattle.scan.specs.Noting.{seen_of}
+use Rattle.scan.specs.Noting.{seen_of, marked}
 use Rattle.elements.specs.Lies.{Lies, part_of}
 use Rattle.scan.specs.Within.{LiesIf, Within}
 use Rattle.elements.proofs.Standing.{Stood}
@@ -30,35 +31,16 @@ times_snoc [] e = refl
 times_snoc (d ∷ []) e = refl
 times_snoc (d ∷ d' ∷ es) e = refl
 
-kind_snoc : (k : Kind) (es : List Element) (e : Element) → of_kind k (es ++ (e ∷ [])) ≡ of_kind k es ++ of_kind k (e ∷ [])
-kind_snoc k [] e = refl
-kind_snoc k (d ∷ es) e = go (is_kind (kind_of d) k) (kind_snoc k es e)
-  where
-    go : (b : Bool) → of_kind k (es ++ (e ∷ [])) ≡ of_kind k es ++ of_kind k (e ∷ [])
-        → (if b then d ∷ of_kind k (es ++ (e ∷ [])) else of_kind k (es ++ (e ∷ []))) ≡ (if b then d ∷ of_kind k es else of_kind k es) ++ of_kind k (e ∷ [])
-    go true h = ap (λ (l : List Element). d ∷ l) h
-    go false h = h
-
 -- an element of the kind k, where those of the kind l are told
 abbrev mark_of : Kind → Kind → Times → Part → Times
 mark_of k l t content = if is_kind k l then seen_of t content else t
 
 times_more : (k : Kind) (es : List Element) (e : Element) → mark_of (kind_of e) k (times_of (of_kind k es)) (part_of e) ≡ times_of (of_kind k (es ++ (e ∷ [])))
-times_more k es e = go (is_kind (kind_of e) k) ∙ ap times_of (sym (kind_snoc k es e))
+times_more k es e = go (is_kind (kind_of e) k) ∙ ap times_of (sym (filter-append (λ (e : Element). is_kind (kind_of e) k) es (e ∷ [])))
   where
     go : (b : Bool) → (if b then seen_of (times_of (of_kind k es)) (part_of e) else times_of (of_kind k es)) ≡ times_of (of_kind k es ++ (if b then e ∷ [] else []))
     go true = sym (times_snoc (of_kind k es) e)
     go false = ap times_of (sym (append-nil (of_kind k es)))
-
--- the places, once an element of a kind is met
-abbrev pub marked : Kind → Places → Part → Places
-marked Rsne p content = record p { rsne = seen_of p.rsne content }
-marked Timeout p content = record p { timeout = seen_of p.timeout content }
-marked Mic p content = record p { mic = seen_of p.mic content }
-marked Fragment p content = record p { fragment = seen_of p.fragment content }
-marked Parameters p content = record p { parameters = seen_of p.parameters content }
-marked Wrapped p content = record p { wrapped = seen_of p.wrapped content }
-marked Skipped p content = p
 
 -- each of the six by itself
 marked_each : (k : Kind) (p : Places) (content : Part) → marked k p content ≡ record {
@@ -94,11 +76,11 @@ scanned_none s start = record { seen = []; so_far = sym (then_none (walk s start
 
 module _ {s : List ℕ} {start : ℕ} {p : Places} {at : ℕ} (g : Scanned s start p at) where
   -- one element more
-  pub scanned_more : (e : Element) {k : Kind} → met_at s at ≡ Stands e → kind_of e ≡ k → Scanned s start (marked k p (part_of e)) e.next
-  scanned_more e h i = record {
+  pub scanned_more : (e : Element) → met_at s at ≡ Stands e → Scanned s start (marked (kind_of e) p (part_of e)) e.next
+  scanned_more e h = record {
     seen = g.seen ++ (e ∷ []);
     so_far = g.so_far ∙ ap (λ (w : Walk). g.seen then w) (walk_stands s at e h) ∙ sym (then_then g.seen (e ∷ []) (walk s e.next));
-    marks = ap₂ (λ (k : Kind) (p : Places). marked k p (part_of e)) (sym i) g.marks ∙ places_more g.seen e;
+    marks = ap (λ (p : Places). marked (kind_of e) p (part_of e)) g.marks ∙ places_more g.seen e;
   }
 
   pub scanned_all : met_at s at ≡ End → scan_by (walk s start) ≡ Ok p
@@ -110,7 +92,7 @@ module _ {s : List ℕ} {start : ℕ} {p : Places} {at : ℕ} (g : Scanned s sta
 
 pub in_body : (s : List ℕ) → 6 ≤ length s → length s ≤ 1024 → scan_of s ≡ scan_by (walk s 6)
 unfolding scan_of walk_body
-in_body s h k = rw (le-ltb (length s) 6 h, le-ltb 1024 (length s) k)
+in_body s h k = grind arith
 
 -- the fewest octets that an element's content has, by its kind
 abbrev fewest : Kind → ℕ
@@ -124,14 +106,7 @@ fewest_one Wrapped = omega arith
 fewest_one k = omega arith
 
 plain_fewest : (id : ℕ) → fewest (plain_kind id) ≡ 0
-plain_fewest id = go (eqb id 48) (eqb id 56) (eqb id 140) (eqb id 242)
-  where
-    go : (a b c d : Bool) → fewest (if a then Rsne else (if b then Timeout else (if c then Mic else (if d then Fragment else Skipped)))) ≡ 0
-    go true b c d = refl
-    go false true c d = refl
-    go false false true d = refl
-    go false false false true = refl
-    go false false false false = refl
+plain_fewest id = grind arith
 
 element_lies : (s : List ℕ) (e : Element) → Stood s e.place e → Lies (fewest (kind_of e)) (length s) (part_of e)
 element_lies s e st = record { long = omega (arith, long (eqb (get_or s e.place 0) 255) refl); within = st.within }

@@ -6,14 +6,14 @@ use mathlib.Core.Logic.{◌⊎◌, inl, inr, ⊎_elim}
 use Prim.Native.Nat.{ℕ, ◌+◌, ◌<◌, ◌≤◌}
 use native.Mathlib.Omega.{arith}
 use borrow.Author.Tests.{eq-eqb}
-use lib.Dec.{ltb, eqb}
+use lib.Dec.{ltb}
 use lib.ListN.{length, get_or}
 use Rattle.std.specs.Prelude.{Option, Some, Result, Ok, Err, if◌then◌else◌}
 use Rattle.octets.specs.Numbers.{le}
 use Rattle.octets.proofs.Numbers.{le_ext}
 use Rattle.elements.specs.declared.Element.{Element}
 use Rattle.elements.specs.declared.Met.TheVariants.{Stands, End, Failed}
-use Rattle.scan.specs.declared.Kind.TheVariants.{Mic, Parameters, Wrapped, Skipped}
+use Rattle.scan.specs.declared.Kind.TheVariants.{Mic}
 use Rattle.elements.specs.declared.Part.{Part}
 use Rattle.scan.specs.declared.Times.{Times}
 use Rattle.scan.specs.declared.Times.TheVariants.{Never, One, More}
@@ -146,12 +146,7 @@ InsideIf w (More p) = SomeOf (Inside p) w
 
 -- no extended element is a MIC
 extended_no_mic : (x : ℕ) → extended_kind x ≡ Mic → ⊥
-extended_no_mic x = go (eqb x 100) (eqb x 8)
-  where
-    go : (a b : Bool) → (if a then Parameters else (if b then Wrapped else Skipped)) ≡ Mic → ⊥
-    go true b e = cc
-    go false true e = cc
-    go false false e = cc
+extended_no_mic x e = grind arith
 
 plain_mic : (s : List ℕ) (e : Element) → Stood s e.place e → kind_of e ≡ Mic → e.id ≡ 255 → ⊥
 plain_mic s e st k h =

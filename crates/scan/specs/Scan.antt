@@ -1,5 +1,5 @@
 -- The elements that the rules speak of: how many of each there are, and where the first stands.
-use Rattle.std.specs.Prelude.{ℕ, Bool, true, false, List, [], ◌∷◌, Option, None, Some, Result, Ok, Err, eqb, if◌then◌else◌}
+use Rattle.std.specs.Prelude.{ℕ, Bool, true, false, List, [], ◌∷◌, Option, None, Some, Result, Ok, Err, filter, eqb, if◌then◌else◌}
 use Rattle.elements.specs.declared.Element.{Element}
 use Rattle.scan.specs.declared.Kind.{Kind}
 use Rattle.scan.specs.declared.Kind.TheVariants.{Rsne, Timeout, Mic, Fragment, Parameters, Wrapped, Skipped}
@@ -46,8 +46,7 @@ is_kind k l = false
 
 -- those of a kind
 abbrev pub of_kind : Kind → List Element → List Element
-of_kind k [] = []
-of_kind k (e ∷ es) = if is_kind (kind_of e) k then e ∷ of_kind k es else of_kind k es
+of_kind k es = filter (λ (e : Element). is_kind (kind_of e) k) es
 
 -- none, one or more, and the content of the first
 abbrev pub times_of : List Element → Times

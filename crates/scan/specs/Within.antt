@@ -1,5 +1,5 @@
 -- Where what a scan finds lies in a string of n octets.
-use Rattle.std.specs.Prelude.{ℕ, ◌≤◌}
+use Rattle.std.specs.Prelude.{ℕ}
 use Rattle.elements.specs.Lies.{Lies}
 use Rattle.scan.specs.declared.Times.{Times}
 use Rattle.scan.specs.declared.Times.TheVariants.{Never, One, More}
@@ -9,12 +9,6 @@ abbrev pub LiesIf : ℕ → ℕ → Times → Type 0
 LiesIf least n Never = Unit {0}
 LiesIf least n (One p) = Lies least n p
 LiesIf least n (More p) = Lies least n p
-
--- a part that ends no earlier than it starts
-abbrev pub Ordered : Times → Type 0
-Ordered Never = Unit {0}
-Ordered (One p) = p.start ≤ p.end
-Ordered (More p) = p.start ≤ p.end
 
 -- an element of ID 255 has its extension ID at least
 pub record Within (n : ℕ) (p : Places) : Type 0 where

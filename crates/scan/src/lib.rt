@@ -95,11 +95,7 @@ impl Times {
     {
         match self {
             Times::Never => Times::One(content),
-            // Number by number: a part that is copied whole goes through memory at each element.
-            Times::One(first) | Times::More(first) => Times::More(Part {
-                start: first.start,
-                end: first.end,
-            }),
+            Times::One(first) | Times::More(first) => Times::More(first),
         }
     }
 }
@@ -114,6 +110,34 @@ pub struct Places {
     pub wrapped: Times,
 }
 
+impl Places {
+    ghost use Rattle.scan.specs.Noting.{marked};
+
+    const NONE: Places = Places {
+        rsne: Times::Never,
+        timeout: Times::Never,
+        mic: Times::Never,
+        fragment: Times::Never,
+        parameters: Times::Never,
+        wrapped: Times::Never,
+    };
+
+    // One more of a kind.
+    fn mark(&mut self, kind: Kind, content: Part)
+        ensures { self.new ≡ marked kind self.old content }
+    {
+        match kind {
+            Kind::Rsne => self.rsne = self.rsne.seen(content),
+            Kind::Timeout => self.timeout = self.timeout.seen(content),
+            Kind::Mic => self.mic = self.mic.seen(content),
+            Kind::Fragment => self.fragment = self.fragment.seen(content),
+            Kind::Parameters => self.parameters = self.parameters.seen(content),
+            Kind::Wrapped => self.wrapped = self.wrapped.seen(content),
+            Kind::Skipped => {}
+        }
+    }
+}
+
 // The place of the element that the walk failed at.
 #[derive(Clone, Copy)]
 pub struct FailedAt(pub usize);
@@ -121,39 +145,18 @@ pub struct FailedAt(pub usize);
 fn scan_elements(body: &[u8]) -> Result<Places, FailedAt>
     ensures { result ≡ scan_by (walk body.now 6) }
 {
-    let mut rsne = Times::Never;
-    let mut timeout = Times::Never;
-    let mut mic = Times::Never;
-    let mut fragment = Times::Never;
-    let mut parameters = Times::Never;
-    let mut wrapped = Times::Never;
+    let mut places = Places::NONE;
     let mut at = HEADER;
     loop {
         match elements::met_at(body, at) {
             Met::End => {
-                return Ok(Places {
-                    rsne,
-                    timeout,
-                    mic,
-                    fragment,
-                    parameters,
-                    wrapped,
-                });
+                return Ok(places);
             }
             Met::Failed => {
                 return Err(FailedAt(at));
             }
             Met::Stands(e) => {
-                let content = e.content();
-                match kind_of(e) {
-                    Kind::Rsne => rsne = rsne.seen(content),
-                    Kind::Timeout => timeout = timeout.seen(content),
-                    Kind::Mic => mic = mic.seen(content),
-                    Kind::Fragment => fragment = fragment.seen(content),
-                    Kind::Parameters => parameters = parameters.seen(content),
-                    Kind::Wrapped => wrapped = wrapped.seen(content),
-                    Kind::Skipped => {}
-                }
+                places.mark(kind_of(e), e.content());
                 at = e.next;
             }
         }

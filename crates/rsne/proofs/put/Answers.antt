@@ -5,12 +5,8 @@ use lib.ListN.{length}
 use Rattle.octets.specs.Numbers.{octets}
 use Rattle.octets.proofs.Parts.{wrote_more}
 use Rattle.suites.specs.Suite.{suite_octets}
-use Rattle.suites.proofs.Laws.{length_suite}
 use Rattle.rsne.specs.Rsne.{rsne_octets}
 use Rattle.rsne.proofs.put.Goals as goal
-
-pub overflow_add-result : goal.overflow_add-result
-overflow_add-result c = omega (arith, length_suite 7)
 
 pub returns : goal.returns
 unfolding rsne_octets octets suite_octets

@@ -29,6 +29,10 @@ module _ (call : Call) (full : Bool) where
     pub seats : Placed own → Seats call.brought.address full o.leaves
     pub late : is_early (answer_number o.answer) ≡ false
 
+  -- what leaves no record, or the same, is sound
+  quiet : {own : Option Peer} {o : Outcome} → Seats call.brought.address full o.leaves → is_early (answer_number o.answer) ≡ false → Sound own o
+  quiet s l = record { seats = λ placed. s; late = l }
+
   goes : (waiting : Bool) → Seats call.brought.address full (gone_if waiting)
   goes true = tt
   goes false = tt
@@ -40,37 +44,37 @@ module _ (call : Call) (full : Bool) where
   module _ (own : Option Peer) where
     first_sound : (algorithm : ℕ) (s : Step Passed) → steps call.brought call.cache call.body full ≡ s
         → Sound own (first_outcome call.brought call.key algorithm (waits own) s)
-    first_sound algorithm (Err why) e = record { seats = λ placed. refused (terms_of why).spares (waits own); late = refl }
+    first_sound algorithm (Err why) e = quiet (refused (terms_of why).spares (waits own)) refl
     first_sound algorithm (Ok passed) e =
         either_way (Sound own) (is_key_of passed.group call.key)
-        (λ _. record { seats = λ placed. (refl, (passes call.brought call.cache call.body full e).room); late = refl })
-        (λ _. record { seats = λ placed. tt; late = refl })
+        (λ _. quiet (refl, (passes call.brought call.cache call.body full e).room) refl)
+        (λ _. quiet tt refl)
 
     first : (algorithm : ℕ) → Sound own (first_frame call.brought call.cache call.key call.body algorithm full own)
     first algorithm =
-        either_way (Sound own) (is_installed own) (λ _. record { seats = λ placed. tt; late = refl })
+        either_way (Sound own) (is_installed own) (λ _. quiet tt refl)
         (λ _. first_sound algorithm (steps call.brought call.cache call.body full) refl)
 
   module _ (p : Peer) where
     by_mic : (third : Option Part) → Sound (Some p) (third_mic call.brought.reading call.mic call.body p third)
     by_mic (Some part) =
-        either_way (Sound (Some p)) (same_octets (content call.body part) call.mic) (λ _. record { seats = λ placed. placed; late = refl }) (λ _. record { seats = λ placed. tt; late = refl })
-    by_mic None = record { seats = λ placed. tt; late = refl }
+        either_way (Sound (Some p)) (same_octets (content call.body part) call.mic) (λ _. record { seats = λ placed. placed; late = refl }) (λ _. quiet tt refl)
+    by_mic None = quiet tt refl
 
     by_akm : (entry : Option Akm) → Sound (Some p) (third_akm call.brought.reading call.mic call.body p entry)
     by_akm (Some akm) = by_mic (third_of call.body akm.mic)
-    by_akm None = record { seats = λ placed. tt; late = refl }
+    by_akm None = quiet tt refl
 
   third : (status : ℕ) (own : Option Peer) → Sound own (third_frame call.brought.reading call.mic call.body status own)
-  third status None = record { seats = λ placed. tt; late = refl }
+  third status None = quiet tt refl
   third status (Some p) =
-      either_way (Sound (Some p)) (not (is_waiting p.phase)) (λ _. record { seats = λ placed. tt; late = refl }) λ _.
-      either_way (Sound (Some p)) (not (eqb status 0)) (λ _. record { seats = λ placed. tt; late = refl }) λ _.
+      either_way (Sound (Some p)) (not (is_waiting p.phase)) (λ _. quiet tt refl) λ _.
+      either_way (Sound (Some p)) (not (eqb status 0)) (λ _. quiet tt refl) λ _.
       by_akm p (akm_of p.agreed.akm)
 
   pub sound : (own : Option Peer) → (opened : Option Header) → Sound own (on_body call opened full own)
   sound own (Some header) =
-      either_way (Sound own) (not (eqb header.algorithm 7)) (λ _. record { seats = λ placed. goes (waits own); late = refl }) λ _.
+      either_way (Sound own) (not (eqb header.algorithm 7)) (λ _. quiet (goes (waits own)) refl) λ _.
       either_way (Sound own) (eqb header.transaction 1) (λ _. first own header.algorithm) λ _.
-      either_way (Sound own) (eqb header.transaction 3) (λ _. third header.status own) λ _. record { seats = λ placed. tt; late = refl }
-  sound own None = record { seats = λ placed. tt; late = refl }
+      either_way (Sound own) (eqb header.transaction 3) (λ _. third header.status own) λ _. quiet tt refl
+  sound own None = quiet tt refl

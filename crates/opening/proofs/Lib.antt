@@ -1,3 +1,1 @@
-pub mod Steps
 pub mod Accepting
-pub mod Replies

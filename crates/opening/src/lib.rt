@@ -16,12 +16,7 @@ use writers::second;
 use writers::second::{Chosen, SECOND};
 
 // What passed the steps, with this PMKID or none.
-fn passed_with(
-    suites: Suites,
-    group: Group,
-    pmkid: Option<[u8; 16]>,
-    lifetime: Seconds,
-) -> Passed
+fn passed_with(suites: Suites, group: Group, pmkid: Option<[u8; 16]>, lifetime: Seconds) -> Passed
     ensures { result ≡ passed_with suites group pmkid lifetime }
 {
     let agreed = Agreed {
@@ -39,6 +34,7 @@ fn passed_with(
 }
 
 // The eleven steps.
+#[tactic(auto, unfolding(rules::specs::OnePeer::steps), using(frames::proofs::first::Laws::first_lies))]
 fn decide(call: Checked, full: bool) -> Result<Passed, Refusal>
     ensures { result ≡ steps call.entry.brought call.entry.cache.octets.now call.entry.body.now full }
 {
@@ -103,12 +99,17 @@ fn accept(call: Checked, passed: Passed, algorithm: u16, reply: &mut [u8]) -> Ve
         group: passed.group.number,
         mic: passed.mic,
     };
-    let deadline = brought.reading.0 + brought.settings.deadline.0;
+    let Brought {
+        address,
+        reading,
+        ..
+    } = brought;
+    let pmkid = passed.pmkid;
     let next = Peer {
-        address: brought.address,
+        address,
         agreed: passed.agreed,
-        pmkid: passed.pmkid,
-        phase: Phase::Waiting(Tu(deadline)),
+        pmkid,
+        phase: Phase::Waiting(Tu(reading.0 + brought.settings.deadline.0)),
     };
     Verdict {
         answer: Answer::Accepted,
@@ -128,13 +129,7 @@ fn listed(passed: &Passed) -> &[u8]
 }
 
 // What a first frame gets of a peer that is not installed; `waiting` says whether a record of it waits.
-pub fn answer(
-    call: Checked,
-    algorithm: u16,
-    full: bool,
-    waiting: bool,
-    reply: &mut [u8],
-) -> Verdict
+pub fn answer(call: Checked, algorithm: u16, full: bool, waiting: bool, reply: &mut [u8]) -> Verdict
     requires { smallest_buffer ≤ length reply.old }
     ensures { Gets (first_outcome call.entry.brought call.entry.key.now algorithm waiting (steps call.entry.brought call.entry.cache.octets.now call.entry.body.now full)) reply.old reply.new result }
 {

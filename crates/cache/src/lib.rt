@@ -54,14 +54,13 @@ fn end_of(cached: &[u8]) -> Tu
 }
 
 // Whether a record is of that PMKID and the same AKM, and its end later than the reading.
-// Two PMKIDs mostly differ at once, so they are compared first.
-fn matches(cached: &[u8], pmkid: &[u8], akm: u8, reading: Tu) -> bool
+// PMKIDs mostly differ, so they are compared first; as arrays, since those are compared sixteen octets at a time.
+fn matches(cached: &[u8], pmkid: &[u8; PMKID], akm: u8, reading: Tu) -> bool
     requires { length cached.now ≡ 28 }
     ensures { result ≡ matches pmkid.now akm reading (cached_of cached.now) }
 {
-    octets::same(&cached[PMKID_AT..AKM_AT], pmkid)
-        && cached[AKM_AT] == akm
-        && reading < end_of(cached)
+    let own: [u8; PMKID] = cached[PMKID_AT..AKM_AT].try_into().unwrap();
+    own == *pmkid && cached[AKM_AT] == akm && reading < end_of(cached)
 }
 
 // The first PMKID of a list that has a record which matches: its number in the list, counted from 0, and that record's end.
@@ -90,7 +89,7 @@ impl<'a> Cache<'a> {
     }
 
     // The end of a PMKID's first record that matches.
-    fn find(self, pmkid: &[u8], akm: u8, reading: Tu) -> Option<Tu>
+    fn find(self, pmkid: &[u8; PMKID], akm: u8, reading: Tu) -> Option<Tu>
         ensures { result ≡ option_map end_of (found_of (records_of self.entry.octets.now) pmkid.now akm reading) }
     {
         self.octets
@@ -104,7 +103,8 @@ impl<'a> Cache<'a> {
         ensures { result ≡ choice_of (records_of self.entry.octets.now) (pieces 16 (length pmkids.now / 16) pmkids.now) akm reading }
     {
         for (k, pmkid) in pmkids.chunks_exact(PMKID).enumerate() {
-            if let Some(end) = self.find(pmkid, akm, reading) {
+            let pmkid: [u8; PMKID] = pmkid.try_into().unwrap();
+            if let Some(end) = self.find(&pmkid, akm, reading) {
                 return Some(Choice { pmkid: k, end });
             }
         }

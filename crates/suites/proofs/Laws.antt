@@ -1,6 +1,6 @@
 -- Laws of the tables, each by one test of the whole table, and of a suite in a string.
 use Prim.Native.Nat.{ℕ, ◌+◌, ◌≤◌, ◌<◌}
-use mathlib.Core.Path.{◌≡◌, refl}
+use mathlib.Core.Path.{◌≡◌, refl, ap}
 use mathlib.Core.Bool.{Bool, true, ◌&&◌}
 use mathlib.Core.List.{List, ◌++◌}
 use mathlib.Core.Logic.{⊎_elim}
@@ -10,7 +10,9 @@ use lib.Dec.{eqb, leb}
 use lib.ListN.{length, drop, get_or}
 use lib.Seq.{get_or-drop, get_or-append-add}
 use borrow.Author.Tests.{eqb-true, leb-true}
-use Rattle.std.specs.Prelude.{Some}
+use Rattle.std.specs.Prelude.{Option, None, Some}
+use Rattle.std.specs.List.{find, list_all}
+use Rattle.std.specs.Option.{option_map_or}
 use Rattle.octets.proofs.Logic.{both, either}
 use Rattle.octets.proofs.Search.{first_found}
 use Rattle.suites.specs.declared.Akm.{Akm}
@@ -32,6 +34,19 @@ is_within : (low high n : ℕ) → within low high n ≡ true → Within low hig
 is_within low high n e =
     let p = both _ _ e in
     record { least = leb-true low n p.0; most = leb-true n high p.1 }
+
+-- What is found by its number, and told by `found` or else by `missing`, has that number, and passes every test that the whole table passes.
+module _ {A B : Type 0} (number : A → ℕ) (table : List A) (n : ℕ) (found : A → B) (missing : B) (one : (x y : A) → found x ≡ found y → x ≡ y)
+    (apart : (x : A) → missing ≡ found x → None ≡ Some x) where
+  answers : (x : A) (o : Option A) → option_map_or found o missing ≡ found x → o ≡ Some x
+  answers x None e = apart x e
+  answers x (Some y) e = ap Some (one y x e)
+
+  pub looked_up : (test : A → Bool) → list_all test table ≡ true → (x : A) → option_map_or found (find (λ y. eqb (number y) n) table) missing ≡ found x
+      → (number x ≡ n) × (test x ≡ true)
+  looked_up test t x e =
+      let p = first_found (λ y. eqb (number y) n) test table x t (answers x (find (λ y. eqb (number y) n) table) e) in
+      (eqb-true (number x) n p.0, p.1)
 
 pub record AkmFound (kind : ℕ) (akm : Akm) : Type 0 where
   pub asked : akm.kind ≡ kind

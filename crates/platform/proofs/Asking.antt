@@ -1,5 +1,5 @@
 -- Removal and look-up, by their checks and by what the search found.
-use Rattle.std.proofs.Common.{ℕ, ◌≡◌, true, not, List, refl, sym, ap, ◌∙◌, if◌then◌else◌}
+use Rattle.std.proofs.Common.{ℕ, ◌≡◌, not, List, refl, sym, ap, ◌∙◌, if◌then◌else◌}
 use Rattle.std.specs.Prelude.{Option, None, Some, is_none, Result, Ok, Err}
 use Rattle.octets.proofs.Choice.{either_way}
 use Rattle.units.specs.declared.Tu.{Tu}
@@ -9,7 +9,7 @@ use Rattle.peers.specs.declared.Found.{Found}
 use Rattle.peers.specs.declared.Found.TheVariants.{At, Free, Full}
 use Rattle.peers.specs.Promises.{shown_at, Drops}
 use Rattle.peers.specs.View.{shows, dated, vacant_peer}
-use Rattle.rules.specs.OnePeer.{clock_fits, is_group_address, is_early, removal_number, asked}
+use Rattle.rules.specs.OnePeer.{clock_fits, is_group_address, asked}
 use Rattle.rules.specs.declared.Removal.{Removal}
 use Rattle.rules.specs.declared.LookUp.{LookUp}
 use Rattle.checks.specs.declared.Barred.{Barred}

@@ -1,4 +1,3 @@
-use Rattle.std.proofs.Common.{sym, ◌∙◌}
 use Rattle.platform.proofs.Asking.{looks_barred, looks_none, looks_some}
 use Rattle.platform.proofs.look_up_in.Goals as goal
 

@@ -1,3 +1,4 @@
 pub mod Contents
 pub mod First
 pub mod Third
+pub mod ByElement

@@ -96,7 +96,14 @@ fn main(rt: HostRuntime) -> io::Result<()> {
     let mut place = 0u64;
     // A proved loop ends: this one after more records than any log has.
     for _ in 0..u64::MAX {
-        match step(&mut input, &mut out, &mut table, &mut setup, &mut value, &mut buffer) {
+        match step(
+            &mut input,
+            &mut out,
+            &mut table,
+            &mut setup,
+            &mut value,
+            &mut buffer,
+        ) {
             Ok(Some(done)) => {
                 place = place.wrapping_add(done.octets);
                 counted = counted.wrapping_add(done.installed as u64);

@@ -2,7 +2,7 @@
 use Prim.Native.Nat.{ℕ}
 use mathlib.Core.Path.{◌≡◌, refl, sym, subst, ◌∙◌}
 use mathlib.Core.List.{List, [], ◌∷◌, ◌++◌}
-use Rattle.std.specs.Prelude.{Option, None, Some}
+use Rattle.std.specs.Prelude.{Option, None, Some, Result, Ok, Err}
 use lib.ListN.{length, drop, replicate}
 use Rattle.units.specs.declared.Tu.{Tu}
 use Rattle.elements.specs.Body.{body_of}
@@ -15,15 +15,15 @@ use Rattle.peers.proofs.Promised.{nobody, elsewhere, drops, taken, puts}
 use Rattle.rules.specs.declared.Answer.{Answer}
 use Rattle.rules.specs.OnePeer.{Call, Left, same, gone, becomes, Outcome, checks, on_body, receive_of}
 use Rattle.rules.specs.Alone.{Ask, receive, remove, look_up, Got}
-use Rattle.checks.specs.declared.Asked.{Asked}
-use Rattle.checks.specs.Checked.{asked_of}
+use Rattle.checks.specs.declared.Barred.{Barred}
+use Rattle.checks.specs.Checked.{barred_of, removal_of, look_up_of}
 use Rattle.rules.specs.declared.LookUp.{LookUp}
 use Rattle.platform.specs.declared.LookedUp.{LookedUp}
 use Rattle.rules.specs.declared.Removal.{Removal}
 use Rattle.platform.specs.declared.Removed.{Removed}
 use Rattle.platform.specs.Inside.{Seats}
 use Rattle.platform.specs.Promises.{Settles, Answers, ruled, Receives, Removes, LooksUp}
-use Rattle.platform.proofs.Asking.{removes_clock, removes_group, removes_none, removes_some, looks_clock, looks_group, looks_none, looks_some}
+use Rattle.platform.proofs.Asking.{removes_barred, removes_none, removes_some, looks_barred, looks_none, looks_some}
 use Rattle.platform.proofs.Receiving.{received_early}
 use Rattle.platform.proofs.Settling.{dates_late, settles_same, settles_gone, settles_becomes}
 use Rattle.platform.proofs.Sound.{Placed, sound}
@@ -122,36 +122,31 @@ met = record { responder = receiver; meets = meets }
 -- Removal and look-up ---------------------------------------------------------------------------------------------------------------------
 
 module _ (t : Table) (a : List ℕ) (n : Tu) where
-  abbrev removed_by : Asked → Option Peer → Removed
-  removed_by Asked.ClockOut own = record { table = t; answer = Removal.ClockOut }
-  removed_by Asked.GroupAddress own = record { table = t; answer = Removal.GroupAddress }
-  removed_by Asked.Passed None = record { table = dated t n; answer = Removal.NoRecord }
-  removed_by Asked.Passed (Some p) = record { table = settled t n a gone; answer = Removal.Removed }
+  abbrev removed_by : Result (Unit {0}) Barred → Option Peer → Removed
+  removed_by (Err barred) own = record { table = t; answer = removal_of barred }
+  removed_by (Ok passed) None = record { table = dated t n; answer = Removal.NoRecord }
+  removed_by (Ok passed) (Some p) = record { table = settled t n a gone; answer = Removal.Removed }
 
-  removes_so : (check : Asked) → check ≡ asked_of t.latest n a → (own : Option Peer) → shows t n a ≡ own → Removes t a n (removed_by check own)
+  removes_so : (check : Result (Unit {0}) Barred) → barred_of t.latest n a ≡ check → (own : Option Peer) → shows t n a ≡ own → Removes t a n (removed_by check own)
   unfolding settled
-  removes_so Asked.ClockOut e own s = removes_clock t a n e refl
-  removes_so Asked.GroupAddress e own s = removes_group t a n e refl
-  removes_so Asked.Passed e None s = removes_none t a n e refl s
-  removes_so Asked.Passed e (Some p) s = removes_some t a n e refl s (drops a (dated t n) (settled t n a gone) refl refl)
+  removes_so (Err barred) e own s = removes_barred t a n barred e
+  removes_so (Ok passed) e None s = removes_none t a n e s
+  removes_so (Ok passed) e (Some p) s = removes_some t a n e s (drops a (dated t n) (settled t n a gone) refl refl)
 
-  removed_places : Sixteen t → (check : Asked) (own : Option Peer) → Sixteen (removed_by check own).table
-  removed_places l Asked.ClockOut own = l
-  removed_places l Asked.GroupAddress own = l
-  removed_places l Asked.Passed None = l
-  removed_places l Asked.Passed (Some p) = settled_places t l n a gone
+  removed_places : Sixteen t → (check : Result (Unit {0}) Barred) (own : Option Peer) → Sixteen (removed_by check own).table
+  removed_places l (Err barred) own = l
+  removed_places l (Ok passed) None = l
+  removed_places l (Ok passed) (Some p) = settled_places t l n a gone
 
-  abbrev looked_by : Asked → Option Peer → LookedUp
-  looked_by Asked.ClockOut own = record { answer = LookUp.ClockOut; peer = vacant_peer }
-  looked_by Asked.GroupAddress own = record { answer = LookUp.GroupAddress; peer = vacant_peer }
-  looked_by Asked.Passed None = record { answer = LookUp.NoRecord; peer = vacant_peer }
-  looked_by Asked.Passed (Some p) = record { answer = LookUp.Shown; peer = p }
+  abbrev looked_by : Result (Unit {0}) Barred → Option Peer → LookedUp
+  looked_by (Err barred) own = record { answer = look_up_of barred; peer = vacant_peer }
+  looked_by (Ok passed) None = record { answer = LookUp.NoRecord; peer = vacant_peer }
+  looked_by (Ok passed) (Some p) = record { answer = LookUp.Shown; peer = p }
 
-  looks_so : (check : Asked) → check ≡ asked_of t.latest n a → (own : Option Peer) → shows t n a ≡ own → LooksUp t a n (looked_by check own)
-  looks_so Asked.ClockOut e own s = looks_clock t a n e refl
-  looks_so Asked.GroupAddress e own s = looks_group t a n e refl
-  looks_so Asked.Passed e None s = looks_none t a n e refl s
-  looks_so Asked.Passed e (Some p) s = looks_some t a n e refl s
+  looks_so : (check : Result (Unit {0}) Barred) → barred_of t.latest n a ≡ check → (own : Option Peer) → shows t n a ≡ own → LooksUp t a n (looked_by check own)
+  looks_so (Err barred) e own s = looks_barred t a n barred e
+  looks_so (Ok passed) e None s = looks_none t a n e s
+  looks_so (Ok passed) e (Some p) s = looks_some t a n e s
 
 -- A run ---------------------------------------------------------------------------------------------------------------------------------
 
@@ -169,9 +164,9 @@ step t l (receive call) = record {
   places = received_places t l call (checked t call);
 }
 step t l (remove a n) =
-    let check = asked_of t.latest n a in
+    let check = barred_of t.latest n a in
     record { got = _; after = _; allowed = removes (removes_so t a n check refl (shows t n a) refl); places = removed_places t a n l check (shows t n a) }
-step t l (look_up a n) = record { got = _; after = t; allowed = looks_up (looks_so t a n (asked_of t.latest n a) refl (shows t n a) refl); places = l }
+step t l (look_up a n) = record { got = _; after = t; allowed = looks_up (looks_so t a n (barred_of t.latest n a) refl (shows t n a) refl); places = l }
 
 record Run (t : Table) (asks : List Ask) : Type 0 where
   pub gots : List Got

@@ -17,7 +17,10 @@ use Rattle.elements.specs.Lies.{content}
 use Rattle.frames.specs.Third.{third_of}
 use Rattle.peers.specs.declared.Peer.{Peer}
 use Rattle.rules.specs.declared.Answer.{Answer}
-use Rattle.rules.specs.OnePeer.{Call, same, gone, becomes, Outcome, answer_number, gone_if, is_waiting, is_installed, waits, terms_of, Step, Passed, steps, waiting_peer, first_outcome, first_frame, installed_peer, third_mic, third_akm, third_frame, is_group_address, ◌or_else◌, checks, on_body, receive_of}
+use Rattle.rules.specs.declared.Passed.{Passed}
+use Rattle.suites.specs.declared.Akm.{Akm}
+use Rattle.elements.specs.declared.Header.{Header}
+use Rattle.rules.specs.OnePeer.{Call, same, gone, becomes, Outcome, answer_number, gone_if, is_waiting, is_installed, waits, terms_of, Step, steps, waiting_peer, first_outcome, first_frame, installed_peer, third_mic, third_akm, third_frame, is_group_address, ◌or_else◌, checks, on_body, receive_of}
 use Rattle.rules.proofs.Checks.{checks_pass}
 
 pub data Kind (call : Call) (own : Option Peer) (o : Outcome) : Type 0 where

@@ -26,10 +26,10 @@ use Rattle.peers.specs.declared.Phase.TheVariants.{Waiting, Installed}
 use Rattle.peers.specs.declared.Table.{Table}
 use Rattle.peers.specs.View.{shows, full}
 use Rattle.rules.specs.declared.Answer.{Answer}
+use Rattle.rules.specs.declared.Passed.{Passed}
 use Rattle.rules.specs.declared.Refusal.{Refusal}
-use Rattle.rules.specs.OnePeer.{Call, becomes, Outcome, answer_number, is_early, is_installed, is_waiting, waits, checks, ◌or_else◌, Step, Passed, acceptance, refusal, first_outcome, first_frame, installed_peer, third_mic, third_akm, third_frame, on_body, receive_of}
+use Rattle.rules.specs.OnePeer.{Call, becomes, Outcome, answer_number, is_early, is_installed, is_waiting, waits, checks, ◌or_else◌, Step, acceptance, refusal, first_outcome, first_frame, installed_peer, third_mic, third_akm, third_frame, on_body, receive_of}
 use Rattle.rules.proofs.Checks.{checks_early}
-use Rattle.closing.proofs.Thirds.{third_alike}
 use Rattle.platform.specs.Promises.{ruled}
 use Rattle.demands.specs.ReadsBack.{FirstFrame, stepped, AcceptsFirst, RefusesFirst, AcceptsThird, AcceptanceIsExact}
 
@@ -226,7 +226,7 @@ module _ (t : Table) (call : Call) where
       ruled_body a.checked
       ∙ ap (λ (o : Option Header). on_body call o crowded own) a.opens
       ∙ ap (third_frame call.brought.reading call.mic call.body 0) a.shown
-      ∙ sym (third_alike call.brought.reading call.mic call.body 0 a.peer a.waiting refl a.listed a.reads (rw a.mic (same_refl call.mic)))
+      ∙ rw (a.waiting, a.listed, a.reads, a.mic, same_refl call.mic)
 
 pub acceptance_is_exact : AcceptanceIsExact
 acceptance_is_exact t call after r w =

@@ -11,7 +11,7 @@ use Rattle.std.specs.List.{find}
 use Rattle.peers.specs.declared.Peer.{Peer}
 use Rattle.peers.specs.declared.Phase.TheVariants.{Waiting}
 use Rattle.peers.specs.declared.Table.{Table}
-use Rattle.peers.specs.View.{count, shows, others, full, vacant_peer}
+use Rattle.peers.specs.View.{shows, others, full, vacant_peer}
 use Rattle.rules.specs.OnePeer.{Call, Outcome, answer_number, is_installed}
 use Rattle.platform.specs.Promises.{shown_after, Answers, ruled}
 use Rattle.demands.specs.Edges.{tu, first_body, third_body, station, hears, record_of, gets}
@@ -34,11 +34,11 @@ abbrev asking : ℕ → Call
 asking cipher = hears (first_body cipher 21 [])
 
 asked : (cipher : ℕ) → ruled empty (asking cipher) ≡ gets None (asking cipher)
-unfolding shows full others count gets
+unfolding shows full others gets
 asked cipher = refl
 
 told : ruled (holding waiting) (hears third_body) ≡ gets (Some waiting) (hears third_body)
-unfolding shows full others count gets
+unfolding shows full others gets
 told = refl
 
 module _ (f : Responder) (meets : Meets f) where

@@ -2,7 +2,6 @@
 use Rattle.std.specs.Prelude.{ℕ, ◌+◌, ◌*◌, ◌-◌, ◌/◌, ◌≡◌, Bool, true, false, List, [], ◌∷◌, ◌++◌, length, take, replicate, if◌then◌else◌, Option, None, Some, is_some}
 use Rattle.octets.specs.Numbers.{le, octets}
 use Rattle.octets.specs.Pieces.{pieces}
-use Rattle.std.specs.List.{find}
 use Rattle.units.specs.declared.Tu.{Tu}
 use Rattle.units.specs.Units.{in_tu}
 use Rattle.elements.specs.Body.{body_of}
@@ -127,7 +126,7 @@ answered o = answer_number o.answer ∷ beside (status_beside o.answer)
 -- a receive, with room in the table and no reading before
 unfoldable pub gets : Option Peer → Call → Outcome
 unfolding
-    receive_of is_well_formed records_of choice_of pieces find body_of scan_of first_of third_of rsne_of timeout_of parameters_of suite_at le akm_of cipher_of group_of is_key_of
+    receive_of is_well_formed records_of choice_of pieces body_of scan_of first_of third_of rsne_of timeout_of parameters_of suite_at le akm_of cipher_of group_of is_key_of
     header_octets second_octets rsne_octets timeout_octets parameters_octets mic_octets suite_octets octets
 gets own call = receive_of (tu 0) false own call
 

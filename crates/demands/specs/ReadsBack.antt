@@ -16,8 +16,9 @@ use Rattle.peers.specs.declared.Phase.TheVariants.{Waiting}
 use Rattle.peers.specs.declared.Table.{Table}
 use Rattle.peers.specs.View.{shows, full}
 use Rattle.rules.specs.declared.Answer.{Answer}
+use Rattle.rules.specs.declared.Passed.{Passed}
 use Rattle.rules.specs.declared.Refusal.{Refusal}
-use Rattle.rules.specs.OnePeer.{Call, answer_number, is_installed, checks, terms_of, Step, Passed, listed, steps, lifetime_of}
+use Rattle.rules.specs.OnePeer.{Call, answer_number, is_installed, checks, terms_of, Step, listed, steps, lifetime_of}
 use Rattle.platform.specs.declared.Received.{Received}
 use Rattle.platform.specs.Promises.{Receives}
 

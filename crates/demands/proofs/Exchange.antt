@@ -8,7 +8,6 @@ use Rattle.std.specs.Prelude.{None, Some}
 use native.Mathlib.Omega.{arith}
 use lib.ListN.{replicate}
 use Rattle.octets.specs.Numbers.{le}
-use Rattle.std.specs.List.{find}
 use Rattle.elements.specs.Body.{body_of}
 use Rattle.scan.specs.Scan.{scan_of}
 use Rattle.suites.specs.Suite.{suite_at}
@@ -77,7 +76,7 @@ worked = record {
       (omega arith, omega arith, (omega arith, omega arith, (omega arith, omega arith, tt)));
   held = record {
     before = [];
-    find = opens;
+    first = opens;
     between = look_up station (tu 5500) ∷ [];
     third = closes 5999;
     since = [];

@@ -7,7 +7,6 @@ use Rattle.octets.proofs.Options.{none-ne-some}
 use Prim.Native.Nat.{ℕ}
 use native.Mathlib.Omega.{arith}
 use lib.ListN.{get_or, replicate}
-use Rattle.std.specs.List.{find}
 use Rattle.peers.specs.declared.Peer.{Peer}
 use Rattle.peers.specs.declared.Phase.TheVariants.{Waiting}
 use Rattle.peers.specs.declared.Table.{Table}

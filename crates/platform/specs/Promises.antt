@@ -1,6 +1,5 @@
 -- What the unit's operations promise, by what the tables show.
-use Rattle.std.specs.Prelude.{ℕ, ◌+◌, ◌≤◌, ◌≡◌, true, false, List, ◌∷◌, if◌then◌else◌}
-use Rattle.std.specs.Prelude.{Option, None, Some}
+use Rattle.std.specs.Prelude.{ℕ, ◌+◌, ◌≤◌, ◌≡◌, true, false, List, ◌∷◌, if◌then◌else◌, Option, None, Some}
 use Rattle.octets.specs.Equality.{same_octets}
 use Rattle.octets.specs.Wrote.{Wrote}
 use Rattle.units.specs.declared.Tu.{Tu}

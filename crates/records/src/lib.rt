@@ -57,7 +57,8 @@ fn phase_number(phase: Phase) -> u8
     }
 }
 
-// The deadline or end of the record at the front of r, and whether that is of an address: no more of it is read.
+// The deadline or end of the record at the front of r, and whether that is of an address: no more of it is read. An address's last octet is looked at first,
+// since the others are often alike.
 #[tactic(auto, unfolding(crate::specs::Record::peer_of))]
 pub fn until(r: &[u8]) -> Tu
     requires { record_size ≤ length r.now }
@@ -66,13 +67,13 @@ pub fn until(r: &[u8]) -> Tu
     Tu(u64::read_le(r, UNTIL_AT))
 }
 
-#[tactic(auto, unfolding(crate::specs::Record::peer_of))]
+#[tactic(auto, using(crate::proofs::Apart::unlike), unfolding(crate::specs::Record::peer_of))]
 pub fn is_of(r: &[u8], address: &[u8; 6]) -> bool
     requires { record_size ≤ length r.now }
     ensures { result ≡ is_of (peer_of r.now) address.now }
 {
     let own: [u8; 6] = r[ADDRESS_AT..HAS_PMKID_AT].try_into().unwrap();
-    own == *address
+    own[5] == address[5] && own == *address
 }
 
 // The record at the front of r.

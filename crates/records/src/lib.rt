@@ -57,8 +57,7 @@ fn phase_number(phase: Phase) -> u8
     }
 }
 
-// The deadline or end of the record at the front of r, and whether that is of an address: no more of it is read. An address's last octet is looked at first,
-// since the others are often alike.
+// The deadline or end of the record at the front of r, and whether that is of an address: no more of it is read.
 #[tactic(auto, unfolding(crate::specs::Record::peer_of))]
 pub fn until(r: &[u8]) -> Tu
     requires { record_size ≤ length r.now }
@@ -67,6 +66,7 @@ pub fn until(r: &[u8]) -> Tu
     Tu(u64::read_le(r, UNTIL_AT))
 }
 
+// The address's last octet is looked at first, since the others are often alike.
 #[tactic(auto, using(crate::proofs::Apart::unlike), unfolding(crate::specs::Record::peer_of))]
 pub fn is_of(r: &[u8], address: &[u8; 6]) -> bool
     requires { record_size ≤ length r.now }

@@ -1,16 +1,19 @@
 -- Laws of the searches: of the file for one record, and of the list of PMKIDs.
-use mathlib.Core.Path.{◌≡◌, refl, ◌∙◌}
+use mathlib.Core.Path.{◌≡◌, refl, sym, ap, ◌∙◌}
 use mathlib.Core.Bool.{Bool, true, false}
 use mathlib.Core.List.{List, [], ◌∷◌, map}
 use Prim.Native.Nat.{ℕ, ◌+◌, ◌≤◌, ◌<◌}
 use native.Mathlib.Numerals.{add-one}
-use lib.ListN.{length, get_or, drop, drop_of_length-le}
-use lib.Seq.{drop-cons}
+use native.Mathlib.Omega.{arith}
+use lib.ListN.{length, get_or, take, drop, drop_of_length-le}
+use lib.Seq.{drop-cons, get_or-take, get_or-drop}
 use Rattle.std.specs.Prelude.{Option, None, Some, option_map, find, if◌then◌else◌}
 use Rattle.std.specs.Option.{option_map_or}
 use Rattle.units.specs.declared.Tu.{Tu}
-use Rattle.cache.specs.File.{Cached}
-use Rattle.cache.specs.Search.{end_of, found_of, choice_from, choice_of}
+use Rattle.octets.specs.Equality.{same_octets}
+use Rattle.octets.proofs.Equality.{same_eq}
+use Rattle.cache.specs.File.{Cached, cached_of}
+use Rattle.cache.specs.Search.{matches, end_of, found_of, choice_from, choice_of}
 
 pub find-map : {A B : Type 0} (f : B → Bool) (g : A → B) (xs : List A) → find f (map g xs) ≡ option_map g (find (λ x. f (g x)) xs)
 find-map f g [] = refl
@@ -20,6 +23,16 @@ find-map f g (x ∷ xs) = go (f (g x)) (find-map f g xs)
         → (if b then Some (g x) else find f (map g xs)) ≡ option_map g (if b then Some x else find (λ x. f (g x)) xs)
     go true ih = refl
     go false ih = ih
+
+-- A record whose PMKID ends in another octet is of another PMKID.
+pub ends_otherwise : (cached pmkid : List ℕ) (akm : ℕ) (reading : Tu) → (get_or cached 18 0 ≡ get_or pmkid 15 0 → ⊥) → false ≡ matches pmkid akm reading (cached_of cached)
+ends_otherwise cached pmkid akm reading h = go (same_octets (take 16 (drop 3 cached)) pmkid) refl
+  where
+    go : (b : Bool) → same_octets (take 16 (drop 3 cached)) pmkid ≡ b → false ≡ matches pmkid akm reading (cached_of cached)
+    go true e =
+        let last = get_or-take 16 (drop 3 cached) 15 0 (omega arith) ∙ get_or-drop 3 cached 15 0 in
+        absurd (h (sym last ∙ ap (λ (s : List ℕ). get_or s 15 0) (same_eq (take 16 (drop 3 cached)) pmkid e)))
+    go false e = rw e
 
 -- How far the search of the list has come: no PMKID before number k has a record that matches.
 pub record Tried (cs : List Cached) (pmkids : List (List ℕ)) (akm : ℕ) (reading : Tu) (k : ℕ) : Type 0 where

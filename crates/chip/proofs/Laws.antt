@@ -5,12 +5,14 @@ use mathlib.Core.List.{List, ◌++◌, append_assoc}
 use Rattle.std.specs.Prelude.{Option, None, Some, Ok, unwrap_or}
 use Rattle.std.specs.Result.{result_ok}
 use Rattle.octets.proofs.Options.{some-injective}
-use Prim.Native.Nat.{ℕ, ◌+◌, ◌-◌, ◌≤◌}
+use Prim.Native.Nat.{ℕ, ◌-◌, ◌≤◌}
 use native.Mathlib.Omega.{arith}
 use lib.Dec.{eqb}
-use lib.ListN.{length, take, drop}
-use lib.Seq.{take-append-le, drop-append-le, drop-drop}
+use lib.ListN.{length, take, drop, replicate, length-append, length-replicate}
+use lib.Seq.{length-take-le, take-append-le, drop-append-le}
 use borrow.Rule.Slice.PartMut.{put_mid}
+use Rattle.octets.specs.Wrote.{Wrote}
+use Rattle.octets.proofs.Parts.{wrote_front, wrote_more}
 use Rattle.elements.specs.declared.Part.{Part}
 use Rattle.elements.specs.Body.{body_of}
 use Rattle.elements.specs.Lies.{Lies, content}
@@ -67,14 +69,29 @@ mic_lies body p e =
     let f = mic_found body e in
     subst (LiesIf 0 (length body)) f.one (within body f.places f.walked).mic
 
--- writing over the part of a string that is its MIC
-pub mic_written : (s mic : List ℕ) (p : Part) → p.start ≤ p.end → put_mid p.start (p.end - p.start) s mic ≡ with_mic s p mic
-mic_written s mic p l =
-    let end : p.start + (p.end - p.start) ≡ p.end = omega arith in
-    rw (drop-drop, end) (sym (append_assoc (take p.start s) mic (drop p.end s)))
+-- Writing n octets into the part of a body that begins at its MIC sets the MIC.
+pub mic_set : (body mic ys : List ℕ) (p : Part) {n : ℕ} → Lies 0 (length body) p → p.end - p.start ≡ length mic
+    → Wrote mic n (take (length body - p.start) (drop p.start body)) ys
+    → put_mid p.start (length body - p.start) body ys ≡ with_mic body p mic
+mic_set body mic ys p l e w =
+    let whole = wrote_more (wrote_front body p.start (omega arith)) w in
+    let n : length (take p.start body ++ mic) ≡ p.end =
+    length-append (take p.start body) mic ∙ omega (arith, length-take-le p.start body (omega arith)) in
+    whole.leaves ∙ ap (λ (k : ℕ). (take p.start body ++ mic) ++ drop k body) n
 
--- the MIC of the front of a string
-pub with_mic_append : (body rest mic : List ℕ) (p : Part) → Lies 0 (length body) p → with_mic (body ++ rest) p mic ≡ with_mic body p mic ++ rest
-with_mic_append body rest mic p l =
-    rw (take-append-le p.start body rest (omega arith), drop-append-le p.end body rest l.within)
-    (sym (append_assoc (take p.start body ++ mic) (drop p.end body) rest))
+-- The same after the body was copied into a second buffer.
+pub mic_zeroed : (body out copied ys : List ℕ) (p : Part) {m n : ℕ} → Lies 0 (length body) p → Wrote body m out copied
+    → Wrote (replicate (p.end - p.start) 0) n (take (length copied - p.start) (drop p.start copied)) ys
+    → put_mid p.start (length copied - p.start) copied ys ≡ with_mic body p (replicate (p.end - p.start) 0) ++ drop (length body) out
+mic_zeroed body out copied ys p l c w =
+    let zeros = replicate {A = ℕ} (p.end - p.start) 0 in
+    let rest = drop (length body) out in
+    let z : length zeros ≡ p.end - p.start = length-replicate {A = ℕ} (p.end - p.start) 0 in
+    let s : p.start ≤ length copied = omega (arith, ap length c.leaves ∙ length-append body rest) in
+    let n : length (take p.start copied ++ zeros) ≡ p.end =
+    length-append (take p.start copied) zeros ∙ omega (arith, length-take-le p.start copied s) in
+    (wrote_more (wrote_front copied p.start s) w).leaves
+    ∙ ap (λ (k : ℕ). (take p.start copied ++ zeros) ++ drop k copied) n
+    ∙ ap (λ (l : List ℕ). (take p.start l ++ zeros) ++ drop p.end l) c.leaves
+    ∙ rw (take-append-le p.start body rest (omega arith), drop-append-le p.end body rest l.within)
+    (sym (append_assoc (take p.start body ++ zeros) (drop p.end body) rest))

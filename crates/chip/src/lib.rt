@@ -84,8 +84,8 @@ pub fn zero_mic(body: &[u8], out: &mut [u8]) -> MicAnswer
     if out.len() < body.len() {
         return MicAnswer::BufferTooShort;
     }
-    out[..body.len()].copy_from_slice(body);
-    out[mic.start..mic.end].fill(0);
+    octets::copy_in(out, body);
+    octets::zero(&mut out[mic.start..], mic.end - mic.start);
     MicAnswer::Done
 }
 
@@ -99,6 +99,6 @@ pub fn set_mic(body: &mut [u8], mic: &[u8]) -> MicAnswer
     if at.end - at.start != mic.len() {
         return MicAnswer::NoMic;
     }
-    body[at.start..at.end].copy_from_slice(mic);
+    octets::copy_in(&mut body[at.start..], mic);
     MicAnswer::Done
 }

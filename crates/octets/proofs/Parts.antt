@@ -1,12 +1,42 @@
--- Laws of a chain of writers, each lent the part where the last one ended.
+-- Laws of writers: a loop that writes from the front, and a chain of writers, each lent the part where the last one ended.
 use mathlib.Core.Path.{◌≡◌, refl, sym, ap, ◌∙◌}
-use mathlib.Core.List.{List, [], ◌++◌, append_assoc, append-nil}
-use Prim.Native.Nat.{ℕ, ◌+◌, ◌-◌, ◌≤◌}
+use mathlib.Core.List.{List, [], ◌∷◌, ◌++◌, append_assoc, append-nil}
+use Prim.Native.Nat.{ℕ, ◌+◌, ◌-◌, ◌<◌, ◌≤◌}
 use native.Mathlib.Omega.{arith}
-use lib.ListN.{length, take, drop, length-append, length-drop, take-append-drop}
-use lib.Seq.{length-take-le, take_all, drop-drop, drop-length, take_at, drop_at}
+use native.Mathlib.Numerals.{add-one}
+use lib.ListN.{length, take, drop, set, length-append, length-drop, length-set, take-append-drop}
+use lib.Seq.{length-take-le, take_all, drop-drop, drop-length, drop-cons, set_at, take_at, drop_at}
 use borrow.Rule.Slice.PartMut.{put_mid}
 use Rattle.octets.specs.Wrote.{Wrote}
+
+-- How far a loop has come that writes d from the front: `written` stands there, and d was d₀.
+pub record Writing (d₀ written d : List ℕ) (i : ℕ) : Type 0 where
+  pub count : length written ≡ i
+  pub kept : length d ≡ length d₀
+  pub stands : d ≡ written ++ drop i d₀
+
+pub writing_none : (d : List ℕ) → Writing d [] d 0
+writing_none d = record { count = refl; kept = refl; stands = refl }
+
+-- one store more
+pub writing_more : {d₀ written next d : List ℕ} {i : ℕ} (v : ℕ) → Writing d₀ written d i → i < length d₀ → next ≡ written ++ (v ∷ [])
+    → Writing d₀ next (set d i v) (i + 1)
+writing_more {d₀} {written} {next} {d} {i} v w h e = record {
+  count = ap length e ∙ length-append written (v ∷ []) ∙ ap (λ (k : ℕ). k + 1) w.count;
+  kept = length-set d i v ∙ w.kept;
+  stands = ap (λ (l : List ℕ). set l i v) (w.stands ∙ ap (λ (l : List ℕ). written ++ l) (drop-cons d₀ i 0 h))
+      ∙ set_at written _ _ v i w.count
+      ∙ sym (append_assoc written (v ∷ []) _)
+      ∙ ap (λ (k : ℕ). (written ++ (v ∷ [])) ++ drop k d₀) (sym (add-one i))
+      ∙ ap (λ (l : List ℕ). l ++ drop (i + 1) d₀) (sym e);
+}
+
+-- the loop's end, where i turns write `f i`
+pub writing_done : (f : ℕ → List ℕ) {d₀ d : List ℕ} {i n : ℕ} → Writing d₀ (f i) d i → i ≤ n → n ≤ i → Wrote (f n) n d₀ d
+writing_done f {d₀} {d} {i} {n} w h k =
+    let e : i ≡ n = omega arith in
+    let c : length (f n) ≡ n = ap (λ (j : ℕ). length (f j)) (sym e) ∙ w.count ∙ e in
+    record { tells = sym c; leaves = w.stands ∙ ap (λ (j : ℕ). f j ++ drop j d₀) e ∙ ap (λ (j : ℕ). f n ++ drop j d₀) (sym c) }
 
 -- A chain begins with nothing written.
 pub wrote_none : (d : List ℕ) → Wrote [] 0 d d

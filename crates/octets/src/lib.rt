@@ -80,12 +80,14 @@ pub fn same(a: &[u8], b: &[u8]) -> bool
     a == b
 }
 
-// Copies src to the front of d.
+// Copies src to the front of d: octet by octet, since the library's copy calls memmove, and the archive may call memcpy and memset alone.
 pub fn copy_in(d: &mut [u8], src: &[u8]) -> usize
     requires { length src.now ≤ length d.old }
     ensures { Wrote src.now result d.old d.new }
 {
-    d[..src.len()].copy_from_slice(src);
+    for i in 0..src.len() {
+        d[i] = src[i];
+    }
     src.len()
 }
 

@@ -52,7 +52,7 @@ fn on_third(own: Option<Peer>, call: Checked, status: u16) -> Verdict
     let Some(peer) = own else {
         return Verdict::silent(Answer::NoExchange, Leaves::Same);
     };
-    closing::answer(peer, call, status)
+    closing::answer(peer, call.brought.reading, call.mic, call.body, status)
 }
 
 // Another algorithm than PASN ends an exchange that waits.

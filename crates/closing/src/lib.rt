@@ -9,7 +9,7 @@ ghost use Rattle.rules.specs.Told.{Decides};
 
 use frames::third;
 use peers::{Peer, Phase};
-use rules::{Answer, Checked, Leaves, Verdict};
+use rules::{Answer, Leaves, Verdict};
 use units::{Seconds, Tu};
 
 // Installed until the lifetime has passed.
@@ -21,8 +21,9 @@ fn installed(lifetime: Seconds, reading: Tu) -> Phase
 }
 
 // What a third frame gets of a peer with a live record.
-pub fn answer(peer: Peer, call: Checked, status: u16) -> Verdict
-    ensures { Decides (third_frame call.entry.brought.reading call.entry.mic.now call.entry.body.now status (Some peer)) result }
+pub fn answer(peer: Peer, reading: Tu, mic: &[u8], body: &[u8], status: u16) -> Verdict
+    requires { reading.0 ≤ 2 ^ 48 }
+    ensures { Decides (third_frame reading mic.now body.now status (Some peer)) result }
 {
     let Phase::Waiting(_) = peer.phase else {
         return Verdict::silent(Answer::NoExchange, Leaves::Same);
@@ -33,11 +34,11 @@ pub fn answer(peer: Peer, call: Checked, status: u16) -> Verdict
     let Some(akm) = suites::akm_of(peer.agreed.akm) else {
         return Verdict::silent(Answer::ThirdRefused, Leaves::Gone);
     };
-    let Some(part) = third::read(call.body, akm.mic) else {
+    let Some(part) = third::read(body, akm.mic) else {
         return Verdict::silent(Answer::ThirdRefused, Leaves::Gone);
     };
-    if octets::same(part.of(call.body), call.mic) {
-        let phase = installed(peer.agreed.lifetime, call.brought.reading);
+    if octets::same(part.of(body), mic) {
+        let phase = installed(peer.agreed.lifetime, reading);
         return Verdict::silent(Answer::Installed, Leaves::Becomes(Peer { phase, ..peer }));
     }
     Verdict::silent(Answer::ThirdRefused, Leaves::Gone)

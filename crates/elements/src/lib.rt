@@ -5,6 +5,7 @@ ghost use Rattle.std.specs.Prelude.{◌≡◌, length};
 ghost use Rattle.elements.specs.Body.{body_of};
 ghost use Rattle.elements.specs.Lies.{Lies, content, part_of};
 ghost use Rattle.elements.specs.Met.{met_at};
+ghost use Rattle.elements.specs.Elements.{Comes, octets_left};
 
 use octets::Number;
 
@@ -148,4 +149,46 @@ pub fn met_at(body: &[u8], at: usize) -> Met
     ensures { result ≡ met_at body.now at }
 {
     Reader::at(body, at).met()
+}
+
+// The place of the element that the walk failed at.
+#[derive(Clone, Copy)]
+pub struct FailedAt(pub usize);
+
+// The elements of a body, one after another: the walk from a place on. A failure is the last that comes.
+#[derive(Drop)]
+pub struct Elements<'a> {
+    body: &'a [u8],
+    at: usize,
+}
+
+impl<'a> Elements<'a> {
+    pub fn of(body: &'a [u8]) -> Elements<'a>
+        ensures { (result.body ≡ body.entry) × (result.at ≡ 6) }
+    {
+        Elements { body, at: HEADER }
+    }
+}
+
+impl<'a> Iterator for Elements<'a> {
+    type Item = Result<Element, FailedAt>;
+
+    ghost next_gives = { Comes };
+
+    ghost remaining = { octets_left };
+
+    fn next(&mut self) -> Option<Result<Element, FailedAt>> {
+        let place = self.at;
+        match met_at(self.body, place) {
+            Met::End => None,
+            Met::Failed => {
+                self.at = self.body.len();
+                Some(Err(FailedAt(place)))
+            }
+            Met::Stands(e) => {
+                self.at = e.next;
+                Some(Ok(e))
+            }
+        }
+    }
 }

@@ -1,7 +1,7 @@
 // Lists the body on standard input: its header, then its elements, a line each.
 #![tactic(auto)]
 
-use elements::{Element, HEADER, Header, LONGEST_BODY, Met};
+use elements::{Element, Elements, FailedAt, Header, LONGEST_BODY};
 use std::io;
 use std::io::Write;
 
@@ -26,21 +26,13 @@ fn put_failure(out: &mut impl Write, place: usize) -> io::Result<()> {
 }
 
 fn list_elements(out: &mut impl Write, body: &[u8]) -> io::Result<()> {
-    let mut at = HEADER;
-    loop {
-        match elements::met_at(body, at) {
-            Met::End => {
-                return Ok(());
-            }
-            Met::Failed => {
-                return put_failure(out, at);
-            }
-            Met::Stands(e) => {
-                put_element(out, e)?;
-                at = e.next;
-            }
+    for element in Elements::of(body) {
+        match element {
+            Ok(e) => put_element(out, e)?,
+            Err(FailedAt(place)) => put_failure(out, place)?,
         }
     }
+    Ok(())
 }
 
 fn list_body(out: &mut impl Write, body: &[u8]) -> io::Result<()> {

@@ -18,7 +18,7 @@ use Rattle.elements.specs.declared.Part.{Part}
 use Rattle.scan.specs.declared.Times.{Times}
 use Rattle.scan.specs.declared.Times.TheVariants.{Never, One, More}
 use Rattle.scan.specs.declared.Places.{Places}
-use Rattle.scan.specs.declared.FailedAt.{FailedAt}
+use Rattle.elements.specs.declared.FailedAt.{FailedAt}
 use Rattle.elements.specs.Body.{body_of}
 use Rattle.elements.specs.Lies.{part_of}
 use Rattle.elements.specs.Met.{met_at}

@@ -6,7 +6,7 @@ use Rattle.scan.specs.declared.Kind.TheVariants.{Rsne, Timeout, Mic, Fragment, P
 use Rattle.scan.specs.declared.Times.{Times}
 use Rattle.scan.specs.declared.Times.TheVariants.{Never, One, More}
 use Rattle.scan.specs.declared.Places.{Places}
-use Rattle.scan.specs.declared.FailedAt.{FailedAt}
+use Rattle.elements.specs.declared.FailedAt.{FailedAt}
 use Rattle.elements.specs.Lies.{part_of}
 use Rattle.elements.specs.Walk.{Walk, walked, failed_at, walk_body}
 

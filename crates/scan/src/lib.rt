@@ -6,7 +6,8 @@ ghost use Rattle.elements.specs.Walk.{walk};
 ghost use Rattle.scan.specs.Scan.{kind_of, plain_kind, extended_kind, scan_by, scan_of};
 ghost use Rattle.scan.specs.Noting.{seen_of};
 
-use elements::{Element, HEADER, LONGEST_BODY, Met, Part};
+pub use elements::FailedAt;
+use elements::{Element, Elements, HEADER, LONGEST_BODY, Part};
 
 // The elements that the rules speak of; all others are skipped.
 #[derive(Clone, Copy)]
@@ -138,29 +139,16 @@ impl Places {
     }
 }
 
-// The place of the element that the walk failed at.
-#[derive(Clone, Copy)]
-pub struct FailedAt(pub usize);
-
+#[tactic(auto, using(crate::proofs::Scanning::scanned_none, crate::proofs::Scanning::scanned_more), unfolding(crate::specs::Scan::places_of))]
 fn scan_elements(body: &[u8]) -> Result<Places, FailedAt>
     ensures { result ≡ scan_by (walk body.now 6) }
 {
     let mut places = Places::NONE;
-    let mut at = HEADER;
-    loop {
-        match elements::met_at(body, at) {
-            Met::End => {
-                return Ok(places);
-            }
-            Met::Failed => {
-                return Err(FailedAt(at));
-            }
-            Met::Stands(e) => {
-                places.mark(kind_of(e), e.content());
-                at = e.next;
-            }
-        }
+    for element in Elements::of(body) {
+        let e = element?;
+        places.mark(kind_of(e), e.content());
     }
+    Ok(places)
 }
 
 // A walk over a whole body: what stands where.

@@ -1,12 +1,7 @@
-use Prim.Native.Nat.{◌-◌}
-use lib.ListN.{length}
+use mathlib.Core.Path.{◌≡◌}
 use Rattle.scan.proofs.Scanning.{Scanned}
 use Rattle.scan.proofs.scan_elements.Given as goal
 
-abbrev pub invariant-loop-places : goal.invariant-loop-places
-invariant-loop-places l =
-    Scanned l.body 6 l.places l.at
-
-abbrev pub decreases-loop-places : goal.decreases-loop-places
-decreases-loop-places l =
-    length l.body - l.at
+abbrev pub invariant-loop-element : goal.invariant-loop-element
+invariant-loop-element l =
+    (l.element-iterator.body.now ≡ l.body) × Scanned l.body 6 l.places l.element-iterator.at

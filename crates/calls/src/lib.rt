@@ -65,7 +65,7 @@ fn on_other(own: Option<Peer>) -> Verdict
     Verdict::silent(Answer::Algorithm, Leaves::Same)
 }
 
-// What a body gets, once the call is checked.
+// What a body gets, once the call is checked. The reply is lent on to be written, so its room is asked for here and is no part of `Checked`.
 pub fn on_body(own: Option<Peer>, full: bool, call: Checked, reply: &mut [u8]) -> Verdict
     requires { smallest_buffer ≤ length reply.old }
     ensures { BodyGets (checked call.entry reply.old) full own reply.new result }

@@ -7,7 +7,7 @@ ghost use Rattle.chip.specs.Chip.{key_in, mic_in, mic_number, ShowsKey, ZeroesMi
 use elements::{PASN, Part};
 use frames::first;
 
-// The empty part at place 0.
+// The empty part at place 0, which C is told where there is no key.
 const NOWHERE: Part = Part { start: 0, end: 0 };
 
 // The place of the key that a first frame shows.

@@ -42,7 +42,7 @@ pub fn open_body(s: &[u8]) -> Option<Header>
     })
 }
 
-// The part of a body from `start` up to `end`.
+// The part of a body from `start` up to `end`: a place, since a place is what C is told of a key, and what a MIC is set at.
 #[derive(Clone, Copy)]
 pub struct Part {
     pub start: usize,
@@ -82,7 +82,7 @@ impl Element {
     }
 }
 
-// What the walk meets at a place.
+// What the walk meets at a place: three outcomes, which an `Option` in a `Result` would tell no plainer.
 #[derive(Clone, Copy)]
 pub enum Met {
     Stands(Element),

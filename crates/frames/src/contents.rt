@@ -22,7 +22,7 @@ pub fn shifted(at: usize, part: Part) -> Part
 }
 
 // The key lifetime that a Timeout Interval asks for, where there is one.
-pub fn read_lifetime(body: &[u8], at: Option<Part>) -> Option<Option<Seconds>>
+pub fn lifetime_at(body: &[u8], at: Option<Part>) -> Option<Option<Seconds>>
     requires { ForSome at (Lies 0 (length body.now)) }
     ensures { result ≡ lifetime_at body.now at }
 {

@@ -41,7 +41,7 @@ pub fn read(body: &[u8]) -> Option<Facts>
     let at_parameters = places.parameters.once()?;
     let at_wrapped = places.wrapped.at_most_once()?;
     let rsne = rsne::read(at_rsne.of(body))?;
-    let lifetime = contents::read_lifetime(body, at_timeout)?;
+    let lifetime = contents::lifetime_at(body, at_timeout)?;
     let parameters = contents::parameters_at(body, at_parameters, Side::Station)?;
     if !wrapped_fits(parameters.format, at_wrapped) {
         return None;

@@ -27,7 +27,8 @@ impl Phase {
     }
 }
 
-// What the two sides agreed on. `cached` says whether there is a PMKID; its octets stand beside, since an enum that holds this holds no array.
+// What the two sides agreed on. `cached` says whether there is a PMKID. Its octets stand beside: a host's state may hold others than zeros where there is none, and a
+// look-up shows them as they are.
 #[derive(Clone, Copy)]
 pub struct Agreed {
     pub cipher: u8,
@@ -189,7 +190,7 @@ impl Found {
     }
 }
 
-// One pass: the place of the record that is shown for the address, or whether a place is free.
+// One pass: the place of the record that is shown for the address, or whether a place is free. Places go by number, since octets have no records to lend.
 pub fn find<S: Places>(s: &S, address: &[u8; 6], reading: Tu) -> Found
     ensures { Finds (S.table s.now) address.now reading result }
 {

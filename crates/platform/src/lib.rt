@@ -34,7 +34,7 @@ pub struct Removed {
     pub answer: Removal,
 }
 
-// What a look-up gives back: `peer` is the record where it is `Shown`, and else a vacant one.
+// What a look-up gives back: `peer` is the record where it is `Shown`, and else a vacant one, since a host is shown both.
 #[derive(Clone, Copy)]
 pub struct LookedUp {
     pub answer: LookUp,

@@ -53,17 +53,14 @@ fn receive(
     let reply = &mut buffer[..setup.room];
     let told = platform::receive_in(table, call, reply);
     lines::put_received(out, told.answer, &reply[..told.length])?;
-    Ok(match told.answer {
-        Answer::Installed => true,
-        _ => false,
-    })
+    Ok(told.answer == Answer::Installed)
 }
 
 fn look_up(out: &mut impl Write, table: &Table, value: &[u8]) -> Result<(), Stop> {
     if value.len() != WHO {
         return Err(Stop::Unfit);
     }
-    let looked = platform::look_up(*table, address_of(value), reading_of(value));
+    let looked = platform::look_up_in(table, &address_of(value), reading_of(value));
     lines::put_looked_up(out, looked.answer, looked.peer)?;
     Ok(())
 }
@@ -121,7 +118,7 @@ fn empty(out: &mut impl Write, table: &mut Table, value: &[u8]) -> Result<(), St
     Ok(())
 }
 
-// Whether a key was installed.
+// Whether a key was installed. Tags are numbers by the log's format.
 pub fn call(
     out: &mut impl Write,
     table: &mut Table,

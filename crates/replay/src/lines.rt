@@ -8,9 +8,9 @@ use std::io::Write;
 
 pub fn put_received(out: &mut impl Write, answer: Answer, reply: &[u8]) -> io::Result<()> {
     write!(out, "receive {} ", u8::from(answer))?;
-    match answer {
-        Answer::Refused(why) => write!(out, "{}", why.status())?,
-        _ => out.write_all(b"-")?,
+    match answer.status() {
+        Some(status) => write!(out, "{status}")?,
+        None => out.write_all(b"-")?,
     }
     write!(out, " {} ", reply.len())?;
     put_octets(out, reply)?;
@@ -40,7 +40,7 @@ pub fn put_looked_up(out: &mut impl Write, answer: LookUp, peer: Peer) -> io::Re
 }
 
 pub fn put_removed(out: &mut impl Write, answer: Removal) -> io::Result<()> {
-    write!(out, "remove {}\n", u8::from(answer))
+    writeln!(out, "remove {}", u8::from(answer))
 }
 
 pub fn put_key(out: &mut impl Write, key: &[u8]) -> io::Result<()> {

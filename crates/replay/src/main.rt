@@ -109,9 +109,9 @@ fn main(rt: HostRuntime) -> io::Result<()> {
                 counted = counted.wrapping_add(done.installed as u64);
             }
             Ok(None) => break,
-            Err(Stop::Unfit) => return write!(out, "bad {place}\n"),
+            Err(Stop::Unfit) => return writeln!(out, "bad {place}"),
             Err(Stop::Io(e)) => return Err(e),
         }
     }
-    write!(out, "counted {counted}\n")
+    writeln!(out, "counted {counted}")
 }

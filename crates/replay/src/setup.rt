@@ -44,6 +44,7 @@ impl Setup {
         }
     }
 
+    // Tags are numbers by the log's format.
     pub fn change(&mut self, tag: u8, value: &[u8]) -> Result<(), Unfit> {
         match tag {
             1 => self.set_settings(value),

@@ -94,10 +94,7 @@ impl Refusal {
     pub fn spares(self) -> bool
         ensures { result ≡ (terms_of self).spares }
     {
-        match self {
-            Refusal::TableFull => true,
-            _ => false,
-        }
+        matches!(self, Refusal::TableFull)
     }
 }
 
@@ -108,7 +105,7 @@ pub struct Suites {
     pub akm: Akm,
 }
 
-// What a first frame that passes the steps comes to: what was agreed, with the PMKID (zeros where there is none), the MIC's length, and the group.
+// What a first frame that passes the steps comes to: what was agreed, with the PMKID as a record holds it (zeros where there is none), the MIC's length, and the group.
 #[derive(Clone, Copy)]
 pub struct Passed {
     pub agreed: Agreed,

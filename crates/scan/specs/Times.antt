@@ -8,7 +8,7 @@ use Rattle.scan.specs.declared.Times.TheVariants.{Never, One, More}
 abbrev pub once : Times → Option Part
 once Never = None
 once (One part) = Some part
-once (More part) = None
+once (More first) = None
 
 -- an element that is there at most once: its content, or that it is not there
 abbrev pub at_most_once : Times → Option (Option Part)

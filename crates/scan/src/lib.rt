@@ -52,7 +52,7 @@ fn kind_of(e: Element) -> Kind
     }
 }
 
-// How many elements of a kind there are, and the content of the first.
+// How many elements of a kind there are, and the content of the first: three cases, since a frame asks for one, for one at most, or for none.
 #[derive(Clone, Copy)]
 pub enum Times {
     Never,

@@ -82,6 +82,7 @@ pub fn longest_mic() -> usize
     LONGEST_MIC
 }
 
+// Each table is searched by the library's `find`: a trait for what has a number would be longer than the three.
 pub fn akm_of(kind: u8) -> Option<Akm>
     ensures { result ≡ akm_of kind }
 {

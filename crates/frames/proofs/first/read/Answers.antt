@@ -16,8 +16,8 @@ parameters c =
 pub of-requires : goal.of-requires
 of-requires c = rsne (goal.at.of-requires c).In_ok-at_rsne
 
-pub read_lifetime-requires : goal.read_lifetime-requires
-read_lifetime-requires c =
+pub lifetime_at-requires : goal.lifetime_at-requires
+lifetime_at-requires c =
     at_most_once_lies _ (walked_lies c.args.body.now c.scan_body.ensures c.ok.ensures.value c.in_ok-places.was).timeout
     (sym c.at_most_once.ensures ∙ c.in_ok-at_timeout.was)
 

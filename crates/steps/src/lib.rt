@@ -116,7 +116,7 @@ pub fn pmkid_step(
             .ok_or(Refusal::Pmkid)?;
         return Ok(Some(pmkid_at(pmkids, choice.pmkid)));
     }
-    if pmkids.is_empty() {
+    if pmkids.len() == 0 {
         Ok(None)
     } else {
         Err(Refusal::Pmkid)

@@ -5,14 +5,14 @@ use mathlib.Core.List.{List}
 use Rattle.std.specs.Prelude.{Option, None, Some}
 use Prim.Native.Nat.{ℕ, ◌*◌, ◌^◌, ◌<◌, ◌≤◌}
 use native.Mathlib.Omega.{arith}
-use lib.Dec.{ltb, eqb}
+use lib.Dec.{ltb}
 use lib.ListN.{length}
-use borrow.Author.Tests.{ltb-true, eqb-true}
+use borrow.Author.Tests.{ltb-true}
 use Rattle.units.specs.declared.Seconds.{Seconds}
 use Rattle.suites.specs.declared.Group.{Group}
 use Rattle.suites.specs.declared.Suite.TheVariants.{Ours}
 use Rattle.suites.specs.Tables.{groups, group_of}
-use Rattle.octets.proofs.Search.{first_found}
+use Rattle.suites.proofs.Laws.{found_in}
 use Rattle.frames.specs.declared.first.Facts.{Facts}
 use Rattle.frames.proofs.first.Laws.{Asks, first_asks}
 use Rattle.rules.specs.declared.Brought.{Brought}
@@ -31,8 +31,8 @@ record GroupIs (number : ℕ) (group : Group) : Type 0 where
 group_is : (number : ℕ) {group : Group} → group_of number ≡ Some group → GroupIs number group
 unfolding group_of
 group_is number {group} q =
-    let p = first_found (λ (x : Group). eqb x.number number) (λ x. ltb x.number (2 ^ 16)) groups group refl q in
-    record { same_group = eqb-true group.number number p.0; two_octets = ltb-true group.number (2 ^ 16) p.1 }
+    let p = found_in (λ (x : Group). x.number) groups number (λ x. ltb x.number (2 ^ 16)) refl group q in
+    record { same_group = p.0; two_octets = ltb-true group.number (2 ^ 16) p.1 }
 
 -- a PMKID or none is listed
 record Lists (s : List ℕ) : Type 0 where

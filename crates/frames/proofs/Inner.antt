@@ -9,7 +9,7 @@ use Rattle.elements.specs.declared.Part.{Part}
 use Rattle.elements.specs.Lies.{Lies, content}
 use Rattle.parameters.specs.declared.Offer.{Offer}
 use Rattle.parameters.specs.declared.Parameters.{Parameters}
-use Rattle.parameters.specs.declared.Side.TheVariants.{Station}
+use Rattle.parameters.specs.declared.Side.{Side}
 use Rattle.rsne.specs.declared.Rsne.{Rsne}
 use Rattle.parameters.specs.Parameters.{parameters_of}
 use Rattle.rsne.specs.Rsne.{rsne_of}
@@ -32,9 +32,9 @@ pub rsne_lies : (body : List ℕ) {p : Part} {r : Rsne} → Lies 0 (length body)
     → Lies 0 (length body) (shifted p.start r.pmkids)
 rsne_lies body {p} {r} l e = shifted_lies body p r.pmkids l (pmkids_lie (content body p) e).lies
 
-pub key_lies : (body : List ℕ) {p : Part} {r : Parameters} {offer : Offer} → Lies 1 (length body) p
-    → parameters_of Station (content body (extended p)) ≡ Some r → r.offer ≡ Some offer
+pub key_lies : (body : List ℕ) (side : Side) {p : Part} {r : Parameters} {offer : Offer} → Lies 1 (length body) p
+    → parameters_of side (content body (extended p)) ≡ Some r → r.offer ≡ Some offer
     → Lies 0 (length body) (shifted (p.start + 1) offer.key)
-key_lies body {p} {r} {offer} l e o =
+key_lies body side {p} {r} {offer} l e o =
     shifted_lies body (extended p) offer.key (extended_lies l)
-    (subst (OfferLies (length (content body (extended p)))) o (parts_lie (content body (extended p)) Station e).offer)
+    (subst (OfferLies (length (content body (extended p)))) o (parts_lie (content body (extended p)) side e).offer)

@@ -67,10 +67,11 @@ module _ (latest : Tu) (brought : Brought) (cache : List ℕ) (n : ℕ) where
   pub checks_early : {answer : Answer} → checks latest brought cache n ≡ Some answer → is_early (answer_number answer) ≡ true
   checks_early e = subst Tells e tells
 
-  -- the reading is a clock's, the deadline one of the settings', and the buffer has room
+  -- the reading is a clock's, the deadline one of the settings', the cache well-formed, and the buffer has room
   pub record Ready : Type 0 where
     pub reading : brought.reading.0 ≤ 2 ^ 48
     pub deadline : brought.settings.deadline.0 ≤ 10000
+    pub formed : is_well_formed cache ≡ true
     pub room : smallest_buffer ≤ n
 
   pub checks_ready : checks latest brought cache n ≡ None → Ready
@@ -79,6 +80,7 @@ module _ (latest : Tu) (brought : Brought) (cache : List ℕ) (n : ℕ) where
       record {
         reading = leb-true brought.reading.0 (2 ^ 48) (both (leb latest.0 brought.reading.0) (in_clock brought.reading) c.clock).1;
         deadline = (settings_range brought.settings c.settings).deadline;
+        formed = c.formed;
         room = c.buffer;
       }
 

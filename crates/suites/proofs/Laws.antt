@@ -14,6 +14,7 @@ use Rattle.std.specs.Prelude.{Option, None, Some}
 use Rattle.std.specs.List.{find, list_all}
 use Rattle.std.specs.Option.{option_map_or}
 use Rattle.octets.proofs.Logic.{both, either}
+use Rattle.octets.proofs.Options.{some-injective}
 use Rattle.octets.proofs.Search.{first_found}
 use Rattle.suites.specs.declared.Akm.{Akm}
 use Rattle.suites.specs.declared.Cipher.{Cipher}
@@ -48,6 +49,11 @@ module _ {A B : Type 0} (number : A → ℕ) (table : List A) (n : ℕ) (found :
       let p = first_found (λ y. eqb (number y) n) test table x t (answers x (find (λ y. eqb (number y) n) table) e) in
       (eqb-true (number x) n p.0, p.1)
 
+-- So is what a table's definition finds, which is told as it stands or not at all.
+pub found_in : {A : Type 0} (number : A → ℕ) (table : List A) (n : ℕ) (test : A → Bool) → list_all test table ≡ true
+    → (x : A) → find (λ y. eqb (number y) n) table ≡ Some x → (number x ≡ n) × (test x ≡ true)
+found_in number table n test t x e = looked_up number table n Some None some-injective (λ y q. q) test t x (ap (λ o. option_map_or Some o None) e)
+
 pub record AkmFound (kind : ℕ) (akm : Akm) : Type 0 where
   pub asked : akm.kind ≡ kind
   pub mic : Within 1 longest_mic akm.mic
@@ -55,8 +61,8 @@ pub record AkmFound (kind : ℕ) (akm : Akm) : Type 0 where
 pub akm_found : {kind : ℕ} {akm : Akm} → akm_of kind ≡ Some akm → AkmFound kind akm
 unfolding akm_of
 akm_found {kind} {akm} e =
-    let p = first_found (λ (a : Akm). eqb a.kind kind) (λ a. within 1 longest_mic a.mic) akms akm refl e in
-    record { asked = eqb-true _ _ p.0; mic = is_within _ _ _ p.1 }
+    let p = found_in (λ (a : Akm). a.kind) akms kind (λ a. within 1 longest_mic a.mic) refl akm e in
+    record { asked = p.0; mic = is_within _ _ _ p.1 }
 
 pub record CipherFound (kind : ℕ) (cipher : Cipher) : Type 0 where
   pub asked : cipher.kind ≡ kind
@@ -65,8 +71,8 @@ pub record CipherFound (kind : ℕ) (cipher : Cipher) : Type 0 where
 pub cipher_found : {kind : ℕ} {cipher : Cipher} → cipher_of kind ≡ Some cipher → CipherFound kind cipher
 unfolding cipher_of
 cipher_found {kind} {cipher} e =
-    let p = first_found (λ (c : Cipher). eqb c.kind kind) (λ c. within 1 15 c.flag) ciphers cipher refl e in
-    record { asked = eqb-true _ _ p.0; flag = is_within _ _ _ p.1 }
+    let p = found_in (λ (c : Cipher). c.kind) ciphers kind (λ c. within 1 15 c.flag) refl cipher e in
+    record { asked = p.0; flag = is_within _ _ _ p.1 }
 
 pub record GroupFound (number : ℕ) (group : Group) : Type 0 where
   pub asked : group.number ≡ number
@@ -80,10 +86,10 @@ pub group_found : {number : ℕ} {group : Group} → group_of number ≡ Some gr
 unfolding group_of is_key_of
 group_found {number} {group} e =
     let lengths : Group → Bool = λ g. within 1 longest_key g.compressed.length && within 1 longest_key g.uncompressed.length in
-    let p = first_found (λ (g : Group). eqb g.number number) lengths groups group refl e in
+    let p = found_in (λ (g : Group). g.number) groups number lengths refl group e in
     let w = both _ _ p.1 in
     record {
-      asked = eqb-true _ _ p.0;
+      asked = p.0;
       keys = λ key k.
           ⊎_elim
           (λ q. rw (form_length key group.compressed q) (is_within _ _ _ w.0))

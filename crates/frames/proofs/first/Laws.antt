@@ -110,7 +110,7 @@ first_lies body e =
           found (parameters_of Station (content body (extended at))) e λ p says e.
           found p.offer e λ offer key told.
           subst (λ (x : ℕ × Offer). Lies 0 (length body) x.1.key) (some-injective _ _ told)
-          (key_lies body (once_lies places.parameters w.parameters one) says key);
+          (key_lies body Station (once_lies places.parameters w.parameters one) says key);
     }
 
 -- not 0, where there is one

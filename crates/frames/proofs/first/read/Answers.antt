@@ -1,5 +1,6 @@
 use Rattle.std.proofs.Common.{length, arith, sym, ap, ◌∙◌}
 use Rattle.elements.specs.Lies.{Lies}
+use Rattle.parameters.specs.declared.Side.TheVariants.{Station}
 use Rattle.rsne.specs.Rsne.{rsne_of}
 use Rattle.frames.proofs.Inner.{rsne_lies, key_lies}
 use Rattle.frames.proofs.Steps.{walked_lies, once_lies, at_most_once_lies}
@@ -38,5 +39,5 @@ overflow_add-at_parameters c =
 pub shifted-requires-2 : goal.shifted-requires-2
 shifted-requires-2 c =
     let at = parameters (goal.at.shifted-requires-2 c).In_ok-at_parameters in
-    let key = key_lies c.args.body.now at (sym c.parameters_at.ensures ∙ c.in_ok-parameters.was) c.in_ok-group.was in
+    let key = key_lies c.args.body.now Station at (sym c.parameters_at.ensures ∙ c.in_ok-parameters.was) c.in_ok-group.was in
     (omega arith, omega arith)

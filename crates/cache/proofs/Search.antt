@@ -11,7 +11,9 @@ use Rattle.std.specs.Prelude.{Option, None, Some, option_map, find, if◌then◌
 use Rattle.std.specs.Option.{option_map_or}
 use Rattle.units.specs.declared.Tu.{Tu}
 use Rattle.octets.specs.Equality.{same_octets}
+use Rattle.octets.specs.Numbers.{le}
 use Rattle.octets.proofs.Equality.{same_eq}
+use Rattle.octets.proofs.Numbers.{le_drop, le_take}
 use Rattle.cache.specs.File.{Cached, cached_of}
 use Rattle.cache.specs.Search.{matches, end_of, found_of, choice_from, choice_of}
 
@@ -24,15 +26,25 @@ find-map f g (x ∷ xs) = go (f (g x)) (find-map f g xs)
     go true ih = refl
     go false ih = ih
 
--- A record whose PMKID ends in another octet is of another PMKID.
-pub ends_otherwise : (cached pmkid : List ℕ) (akm : ℕ) (reading : Tu) → (get_or cached 18 0 ≡ get_or pmkid 15 0 → ⊥) → false ≡ matches pmkid akm reading (cached_of cached)
-ends_otherwise cached pmkid akm reading h = go (same_octets (take 16 (drop 3 cached)) pmkid) refl
+-- A record of another PMKID does not match.
+of_another : (cached pmkid : List ℕ) (akm : ℕ) (reading : Tu) → (take 16 (drop 3 cached) ≡ pmkid → ⊥) → false ≡ matches pmkid akm reading (cached_of cached)
+of_another cached pmkid akm reading h = go (same_octets (take 16 (drop 3 cached)) pmkid) refl
   where
     go : (b : Bool) → same_octets (take 16 (drop 3 cached)) pmkid ≡ b → false ≡ matches pmkid akm reading (cached_of cached)
-    go true e =
-        let last = get_or-take 16 (drop 3 cached) 15 0 (omega arith) ∙ get_or-drop 3 cached 15 0 in
-        absurd (h (sym last ∙ ap (λ (s : List ℕ). get_or s 15 0) (same_eq (take 16 (drop 3 cached)) pmkid e)))
+    go true e = absurd (h (same_eq (take 16 (drop 3 cached)) pmkid e))
     go false e = rw e
+
+-- So one whose PMKID ends in another octet, or whose latter half is another number.
+module _ (cached pmkid : List ℕ) (akm : ℕ) (reading : Tu) where
+  pub ends_otherwise : (get_or cached 18 0 ≡ get_or pmkid 15 0 → ⊥) → false ≡ matches pmkid akm reading (cached_of cached)
+  ends_otherwise h =
+      let last = get_or-take 16 (drop 3 cached) 15 0 (omega arith) ∙ get_or-drop 3 cached 15 0 in
+      of_another cached pmkid akm reading λ e. h (sym last ∙ ap (λ (s : List ℕ). get_or s 15 0) e)
+
+  pub half_otherwise : (le 8 cached 11 ≡ le 8 pmkid 8 → ⊥) → false ≡ matches pmkid akm reading (cached_of cached)
+  half_otherwise h =
+      let half = le_take 8 (drop 3 cached) 16 8 (omega arith) ∙ le_drop 8 cached 3 8 in
+      of_another cached pmkid akm reading λ e. h (sym half ∙ ap (λ (s : List ℕ). le 8 s 8) e)
 
 -- How far the search of the list has come: no PMKID before number k has a record that matches.
 pub record Tried (cs : List Cached) (pmkids : List (List ℕ)) (akm : ℕ) (reading : Tu) (k : ℕ) : Type 0 where

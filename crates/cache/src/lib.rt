@@ -54,13 +54,13 @@ fn end_of(cached: &[u8]) -> Tu
 }
 
 // Whether a record is of that PMKID and the same AKM, and its end later than the reading.
-// PMKIDs mostly differ in their last octet already, so that is compared first; the rest as arrays, since those are compared sixteen octets at a time.
-#[tactic(auto, using(crate::proofs::Search::ends_otherwise))]
+// PMKIDs mostly differ in their latter half already, so that is compared first, as one number; the whole as arrays, which are compared sixteen octets at a time.
+#[tactic(auto, using(crate::proofs::Search::half_otherwise))]
 fn matches(cached: &[u8], pmkid: &[u8; PMKID], akm: u8, reading: Tu) -> bool
     requires { length cached.now ≡ 28 }
     ensures { result ≡ matches pmkid.now akm reading (cached_of cached.now) }
 {
-    if cached[AKM_AT - 1] != pmkid[PMKID - 1] {
+    if u64::read_le(cached, AKM_AT - 8) != u64::read_le(pmkid, PMKID - 8) {
         return false;
     }
     let own: [u8; PMKID] = cached[PMKID_AT..AKM_AT].try_into().unwrap();

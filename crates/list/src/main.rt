@@ -15,10 +15,12 @@ fn put_header(out: &mut impl Write, header: Header, length: usize) -> io::Result
 }
 
 fn put_element(out: &mut impl Write, e: Element) -> io::Result<()> {
+    write!(out, "{} ", e.id)?;
     match e.extension {
-        Some(extension) => writeln!(out, "{} {extension} {} {}", e.id, e.place, e.length),
-        None => writeln!(out, "{} - {} {}", e.id, e.place, e.length),
+        Some(extension) => write!(out, "{extension} ")?,
+        None => out.write_all(b"- ")?,
     }
+    writeln!(out, "{} {}", e.place, e.length)
 }
 
 fn put_failure(out: &mut impl Write, place: usize) -> io::Result<()> {

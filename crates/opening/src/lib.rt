@@ -83,6 +83,8 @@ fn refuse_with(algorithm: u16, waiting: bool, why: Refusal, reply: &mut [u8]) ->
 }
 
 // The second frame, for a frame that passed the steps, where our own key is one of its group.
+// Compiled into its caller, its copy of a PMKID that lies on the same stack becomes a call of memcpy, which the archive else needs of no host.
+#[inline(never)]
 fn accept(call: Checked, passed: Passed, algorithm: u16, reply: &mut [u8]) -> Verdict
     requires { ReplyFits passed call.key.now (length reply.old) }
     ensures { Gets (acceptance call.entry.brought call.entry.key.now algorithm passed) reply.old reply.new result }
